@@ -1,0 +1,15 @@
+pub mod Whole
+pub mod RingLaws
+pub mod Coefficients
+pub mod Bits
+pub mod Sums
+pub mod Acts
+pub mod Entries
+pub mod Products
+pub mod Gates
+pub mod Mass
+pub mod Totals
+pub mod Norms
+pub mod Bell
+pub mod States
+pub mod Twins
