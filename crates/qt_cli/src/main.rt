@@ -1,0 +1,35 @@
+//! The program `qtree`: the top call over the files of the working folder and the standard streams.
+//!
+//! The two adapters are the edge towards the system. They tell no content, so nothing is proved of what a file or a stream
+//! really holds; each counts its faults, and a fault is answered only where its count rose.
+#![tactic(auto)]
+
+mod file_shelf;
+#[cfg(test)]
+mod tests;
+mod writer_sink;
+
+use file_shelf::FileShelf;
+use qt_host::host::host;
+use std::io;
+use std::process::ExitCode;
+use writer_sink::WriterSink;
+
+/// The words behind the program's name.
+fn words(rt: &HostRuntime) -> io::Result<Vec<String>> {
+    let mut words = Vec::new(rt.alloc());
+    for word in std::env::args(rt)?.skip(1) {
+        words.push(word)?;
+    }
+    Ok(words)
+}
+
+fn main(rt: HostRuntime) -> ExitCode {
+    // Words that can't be had whole are answered as words that ask for nothing that is served.
+    let words = words(&rt).unwrap_or(Vec::new(rt.alloc()));
+    let (stdout, stderr) = (rt.stdout(), rt.stderr());
+    let mut shelf = FileShelf::new(rt.alloc(), &rt);
+    let mut out = WriterSink::new(io::writer(&stdout));
+    let mut err = WriterSink::new(io::writer(&stderr));
+    ExitCode::from(host(rt.alloc(), words.as_slice(), &mut shelf, &mut out, &mut err))
+}

@@ -1,0 +1,4 @@
+pub mod Words
+pub mod Putting
+pub mod Answers
+pub mod OneAnswer

@@ -1,0 +1,197 @@
+//! The top call over fakes: what goes out, what is told, and the status, row by row.
+
+use crate::host::host;
+use qt_outside::memory_shelf::MemoryShelf;
+use qt_outside::memory_sink::MemorySink;
+use qt_outside::sure_shelf::SureShelf;
+use qt_outside::sure_sink::SureSink;
+use std::alloc::{AllocError, Global};
+use std::test::Fail;
+
+const COIN: &str =
+    "OPENQASM 3.0;\ninclude \"stdgates.inc\";\nqubit[1] q;\nbit[1] c;\nh q[0];\nc[0] = measure q[0];\n";
+
+const INTERFERENCE: &str =
+    "OPENQASM 3.0;\ninclude \"stdgates.inc\";\nqubit[1] q;\nbit[1] c;\nh q[0];\nt q[0];\nh q[0];\nc[0] = measure q[0];\n";
+
+const NOTHING_DONE: &str = "OPENQASM 3.0;\ninclude \"stdgates.inc\";\nqubit[2] q;\nbit[2] c;\n";
+
+const BELL: &str =
+    "OPENQASM 3.0;\ninclude \"stdgates.inc\";\nqubit[2] q;\nbit[2] c;\nh q[0];\ncx q[0], q[1];\nc[0] = measure q[0];\nc[1] = measure q[1];\n";
+
+const FIVE_QUBITS: &str =
+    "OPENQASM 3.0;\ninclude \"stdgates.inc\";\nqubit[5] q;\nbit[1] c;\nh q[0];\nc[0] = measure q[0];\n";
+
+/// The words, the text of `coin.qasm`, and what is to come.
+struct Row {
+    words: &'static [&'static str],
+    text: &'static str,
+    status: u8,
+    out: &'static str,
+    err: &'static str,
+}
+
+const ROWS: [Row; 10] = [
+    Row {
+        words: &["run", "coin.qasm"],
+        text: COIN,
+        status: 0,
+        out: "c=0 (1+0r)/2^1\nc=1 (1+0r)/2^1\ntotal (1+0r)/2^0\n",
+        err: "",
+    },
+    Row {
+        words: &["run", "coin.qasm"],
+        text: INTERFERENCE,
+        status: 0,
+        out: "c=0 (2+1r)/2^2\nc=1 (2-1r)/2^2\ntotal (1+0r)/2^0\n",
+        err: "",
+    },
+    Row {
+        words: &["run", "coin.qasm"],
+        text: NOTHING_DONE,
+        status: 0,
+        out: "c=00 (1+0r)/2^0\ntotal (1+0r)/2^0\n",
+        err: "",
+    },
+    Row {
+        words: &["run", "coin.qasm"],
+        text: BELL,
+        status: 0,
+        out: "c=00 (1+0r)/2^1\nc=11 (1+0r)/2^1\ntotal (1+0r)/2^0\n",
+        err: "",
+    },
+    Row {
+        words: &["run", "coin.qasm"],
+        text: FIVE_QUBITS,
+        status: 1,
+        out: "",
+        err: "E0 coin.qasm form\n",
+    },
+    Row {
+        words: &["run", "other.qasm"],
+        text: COIN,
+        status: 4,
+        out: "",
+        err: "S1 shelf other.qasm\n",
+    },
+    Row {
+        words: &["run"],
+        text: COIN,
+        status: 2,
+        out: "",
+        err: "W1 words\n",
+    },
+    Row {
+        words: &[],
+        text: COIN,
+        status: 2,
+        out: "",
+        err: "W1 words\n",
+    },
+    Row {
+        words: &["paint", "coin.qasm"],
+        text: COIN,
+        status: 2,
+        out: "",
+        err: "W1 words\n",
+    },
+    Row {
+        words: &["run", "coin.qasm", "coin.qasm"],
+        text: COIN,
+        status: 2,
+        out: "",
+        err: "W1 words\n",
+    },
+];
+
+fn owned(alloc: Global, words: &[&str]) -> Result<Vec<String>, AllocError> {
+    let mut all = Vec::new(alloc);
+    for word in words {
+        all.push(String::from_str(alloc, word)?)?;
+    }
+    Ok(all)
+}
+
+#[test]
+fn each_row(rt: HostRuntime) -> Result<(), Fail> {
+    for row in ROWS.iter() {
+        let words = owned(rt.alloc(), row.words)?;
+        let mut shelf = MemoryShelf::new(rt.alloc());
+        shelf.add_text("coin.qasm", row.text.as_bytes())?;
+        let mut out = MemorySink::new(rt.alloc());
+        let mut err = MemorySink::new(rt.alloc());
+        let status = host(rt.alloc(), words.as_slice(), &mut shelf, &mut out, &mut err);
+        assert_eq!(rt; out.bytes(), row.out.as_bytes());
+        assert_eq!(rt; err.bytes(), row.err.as_bytes());
+        assert_eq!(rt; status, row.status);
+    }
+    Ok(())
+}
+
+/// A text that isn't UTF-8, one that is longer than any text may be, and one that the shelf lacks but doesn't miss.
+#[test]
+fn texts_of_no_form(rt: HostRuntime) -> Result<(), Fail> {
+    let words = owned(rt.alloc(), &["run", "p.qasm"])?;
+    let mut long = Vec::from_slice(rt.alloc(), COIN.as_bytes())?;
+    for _ in 0..1048577u32 {
+        long.push(b'\n')?;
+    }
+    for text in [&[0xffu8][..], long.as_slice(), b""] {
+        let mut shelf = SureShelf::new(rt.alloc());
+        shelf.add_text("p.qasm", text)?;
+        let mut out = SureSink::new(rt.alloc());
+        let mut err = SureSink::new(rt.alloc());
+        assert_eq!(rt;
+            host(rt.alloc(), words.as_slice(), &mut shelf, &mut out, &mut err),
+            1
+        );
+        assert_eq!(rt; out.bytes(), "".as_bytes());
+        assert_eq!(rt; err.bytes(), "E0 p.qasm form\n".as_bytes());
+    }
+    Ok(())
+}
+
+/// Sinks that refuse a call: the call, how much they keep, and what is to come.
+#[test]
+fn refusing_sinks(rt: HostRuntime) -> Result<(), Fail> {
+    let words = owned(rt.alloc(), &["run", "coin.qasm"])?;
+    for (call, kept, report, line) in [
+        (1, 0, "", ""),
+        (1, 100, "c=0 (1+0r)/2^1\n", "O1 sink\n"),
+        (2, 3, "c=0 (1+0r)/2^1\nc=1", "O1 "),
+        (3, 6, "c=0 (1+0r)/2^1\nc=1 (1+0r)/2^1\ntotal ", "O1 sin"),
+    ] {
+        let mut shelf = MemoryShelf::new(rt.alloc());
+        shelf.add_text("coin.qasm", COIN.as_bytes())?;
+        let mut out = MemorySink::new(rt.alloc());
+        out.fail_at(call, kept)?;
+        let mut err = MemorySink::new(rt.alloc());
+        err.fail_at(1, kept)?;
+        assert_eq!(rt;
+            host(rt.alloc(), words.as_slice(), &mut shelf, &mut out, &mut err),
+            5
+        );
+        assert_eq!(rt; out.bytes(), report.as_bytes());
+        assert_eq!(rt; err.bytes(), line.as_bytes());
+    }
+    Ok(())
+}
+
+/// A shelf that fails for a text that it holds.
+#[test]
+fn failing_shelf(rt: HostRuntime) -> Result<(), Fail> {
+    let words = owned(rt.alloc(), &["run", "coin.qasm"])?;
+    let mut shelf = MemoryShelf::new(rt.alloc());
+    shelf.add_text("coin.qasm", COIN.as_bytes())?;
+    shelf.fail_at(1)?;
+    for (status, wanted) in [(4, "S1 shelf coin.qasm\n"), (0, "")] {
+        let mut out = SureSink::new(rt.alloc());
+        let mut err = SureSink::new(rt.alloc());
+        assert_eq!(rt;
+            host(rt.alloc(), words.as_slice(), &mut shelf, &mut out, &mut err),
+            status
+        );
+        assert_eq!(rt; err.bytes(), wanted.as_bytes());
+    }
+    Ok(())
+}

@@ -1,0 +1,6 @@
+pub mod Lists
+pub mod Sizes
+pub mod Rows
+pub mod Plain
+pub mod Weighed
+pub mod Masses

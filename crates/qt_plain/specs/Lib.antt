@@ -1,0 +1,3 @@
+pub mod Mass
+pub mod Operators
+pub mod Vectors

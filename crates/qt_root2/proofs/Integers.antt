@@ -1,0 +1,121 @@
+-- Laws of the whole numbers. An identity is proved over differences of natural numbers, where it is one of sums of products, and then carried over.
+use Rattle.std.proofs.Common.{◌≡◌, ℕ, suc, ◌+◌, ◌*◌, refl, sym, ap, ◌∙◌, subst, arith, ℤ, pos, negsuc, ◌+ℤ◌, ◌-ℤ◌, ◌*ℤ◌, ◌≤ℤ◌}
+use lib.IntN.{neg_ℤ, *ℤ_comm}
+use Rattle.std.proofs.lemmas.Int.{ints}
+
+-- a - b
+pub dif : ℕ → ℕ → ℤ
+dif a b = pos a -ℤ pos b
+
+pub dif_eq : (a b c d : ℕ) → a + d ≡ c + b → dif a b ≡ dif c d
+unfolding dif
+dif_eq a b c d h = omega (arith, ints)
+
+pub dif_add : (a b c d : ℕ) → dif a b +ℤ dif c d ≡ dif (a + c) (b + d)
+unfolding dif
+dif_add a b c d = omega (arith, ints)
+
+pub dif_sub : (a b c d : ℕ) → dif a b -ℤ dif c d ≡ dif (a + d) (b + c)
+unfolding dif
+dif_sub a b c d = omega (arith, ints)
+
+up : ℤ → ℕ
+up (pos n) = n
+up (negsuc n) = 0
+
+down : ℤ → ℕ
+down (pos n) = 0
+down (negsuc n) = suc n
+
+dif_is : (z : ℤ) → dif (up z) (down z) ≡ z
+unfolding dif up down
+dif_is (pos n) = omega (arith, ints)
+dif_is (negsuc n) = omega (arith, ints)
+
+pub pos_is : (n : ℕ) → pos n ≡ dif n 0
+unfolding dif
+pos_is n = omega (arith, ints)
+
+pos_by : (n m k : ℕ) → n + m ≡ k → pos n ≡ dif k m
+unfolding dif
+pos_by n m k h = omega (arith, ints, h)
+
+neg_by : (n m k : ℕ) → n + m ≡ k → neg_ℤ (pos n) ≡ dif m k
+unfolding dif
+neg_by n m k h = omega (arith, ints, h)
+
+-- a product by the signs
+mul_is : (x y : ℤ) → x *ℤ y ≡ dif (up x * up y + down x * down y) (up x * down y + down x * up y)
+unfolding up down
+mul_is (pos a) (pos b) = pos_by _ _ _ (omega arith)
+mul_is (pos a) (negsuc b) = neg_by _ _ _ (omega arith)
+mul_is (negsuc a) (pos b) = neg_by _ _ _ (omega arith)
+mul_is (negsuc a) (negsuc b) = pos_by _ _ _ (omega arith)
+
+cross : (a b c d p q r s : ℕ) → p + b ≡ q + a → r + d ≡ s + c → (p * r + q * s) + (a * d + b * c) ≡ (a * c + b * d) + (p * s + q * r)
+cross a b c d p q r s h g =
+    let h1 : (p + b) * r ≡ (q + a) * r = ap (λ x. x * r) h in
+    let h2 : (p + b) * s ≡ (q + a) * s = ap (λ x. x * s) h in
+    let g1 : a * (r + d) ≡ a * (s + c) = ap (λ x. a * x) g in
+    let g2 : b * (r + d) ≡ b * (s + c) = ap (λ x. b * x) g in
+    omega arith
+
+from_dif : (a b : ℕ) (z : ℤ) → z ≡ dif a b → up z + b ≡ down z + a
+unfolding dif up down
+from_dif a b (pos n) e = omega (arith, ints, e)
+from_dif a b (negsuc n) e = omega (arith, ints, e)
+
+parts : (a b : ℕ) → up (dif a b) + b ≡ down (dif a b) + a
+parts a b = from_dif a b (dif a b) refl
+
+pub dif_mul : (a b c d : ℕ) → dif a b *ℤ dif c d ≡ dif (a * c + b * d) (a * d + b * c)
+dif_mul a b c d =
+    mul_is (dif a b) (dif c d) ∙ dif_eq _ _ _ _ (cross a b c d (up (dif a b)) (down (dif a b)) (up (dif c d)) (down (dif c d)) (parts a b) (parts c d))
+
+pub by_dif : (P : ℤ → Type 0) → ((a b : ℕ) → P (dif a b)) → (z : ℤ) → P z
+by_dif P h z = subst P (dif_is z) (h (up z) (down z))
+
+distrib_d : (a b c d e f : ℕ) → dif a b *ℤ (dif c d +ℤ dif e f) ≡ dif a b *ℤ dif c d +ℤ dif a b *ℤ dif e f
+distrib_d a b c d e f = simp (dif_add, dif_mul) (dif_eq _ _ _ _ (omega arith))
+
+pub distrib : (x y z : ℤ) → x *ℤ (y +ℤ z) ≡ x *ℤ y +ℤ x *ℤ z
+distrib x y z = by_dif (λ x. x *ℤ (y +ℤ z) ≡ x *ℤ y +ℤ x *ℤ z) (λ a b. by_dif (λ y. dif a b *ℤ (y +ℤ z) ≡ dif a b *ℤ y +ℤ dif a b *ℤ z) (λ c d. by_dif (λ z. dif a b *ℤ (dif c d +ℤ z) ≡ dif a b *ℤ dif c d +ℤ dif a b *ℤ z) (λ e f. distrib_d a b c d e f) z) y) x
+
+pub distrib_left : (x y z : ℤ) → (y +ℤ z) *ℤ x ≡ y *ℤ x +ℤ z *ℤ x
+distrib_left x y z = *ℤ_comm (y +ℤ z) x ∙ distrib x y z ∙ ap (λ t. t +ℤ x *ℤ z) (*ℤ_comm x y) ∙ ap (λ t. y *ℤ x +ℤ t) (*ℤ_comm x z)
+
+assoc_d : (a b c d e f : ℕ) → dif a b *ℤ (dif c d *ℤ dif e f) ≡ dif a b *ℤ dif c d *ℤ dif e f
+assoc_d a b c d e f = simp (dif_add, dif_mul) (dif_eq _ _ _ _ (omega arith))
+
+pub assoc : (x y z : ℤ) → x *ℤ y *ℤ z ≡ x *ℤ (y *ℤ z)
+assoc x y z = sym (by_dif (λ x. x *ℤ (y *ℤ z) ≡ x *ℤ y *ℤ z) (λ a b. by_dif (λ y. dif a b *ℤ (y *ℤ z) ≡ dif a b *ℤ y *ℤ z) (λ c d. by_dif (λ z. dif a b *ℤ (dif c d *ℤ z) ≡ dif a b *ℤ dif c d *ℤ z) (λ e f. assoc_d a b c d e f) z) y) x)
+
+pub neg_dif : (a b : ℕ) → neg_ℤ (dif a b) ≡ dif b a
+unfolding dif
+neg_dif a b = omega (arith, ints)
+
+neg_d : (a b c d : ℕ) → neg_ℤ (dif a b) *ℤ dif c d ≡ neg_ℤ (dif a b *ℤ dif c d)
+neg_d a b c d = simp (neg_dif, dif_mul) (dif_eq _ _ _ _ (omega arith))
+
+pub neg_left : (x y : ℤ) → neg_ℤ x *ℤ y ≡ neg_ℤ (x *ℤ y)
+neg_left x y = by_dif (λ x. neg_ℤ x *ℤ y ≡ neg_ℤ (x *ℤ y)) (λ a b. by_dif (λ y. neg_ℤ (dif a b) *ℤ y ≡ neg_ℤ (dif a b *ℤ y)) (λ c d. neg_d a b c d) y) x
+
+pub neg_right : (x y : ℤ) → x *ℤ neg_ℤ y ≡ neg_ℤ (x *ℤ y)
+neg_right x y = *ℤ_comm x (neg_ℤ y) ∙ neg_left y x ∙ ap neg_ℤ (*ℤ_comm y x)
+
+pub neg_plus : (x y : ℤ) → neg_ℤ (x +ℤ y) ≡ neg_ℤ x +ℤ neg_ℤ y
+neg_plus x y = omega (arith, ints)
+
+pub neg_neg : (x : ℤ) → neg_ℤ (neg_ℤ x) ≡ x
+neg_neg x = omega (arith, ints)
+
+-- a number and itself
+pub double_same : (x y : ℤ) → x +ℤ x ≡ y +ℤ y → x ≡ y
+double_same x y h = omega (arith, ints, h)
+
+-- the order of products
+
+pub times_least : (x y : ℤ) → pos 0 ≤ℤ x → pos 0 ≤ℤ y → pos 0 ≤ℤ (x *ℤ y)
+times_least (pos m) (pos n) h g = omega (arith, ints)
+times_least (negsuc m) y h g = absurd (omega (arith, ints, h))
+times_least (pos m) (negsuc n) h g = absurd (omega (arith, ints, g))

@@ -1,0 +1,5 @@
+pub mod Masses
+pub mod Numerators
+pub mod Real
+pub mod Root2
+pub mod Scaling
