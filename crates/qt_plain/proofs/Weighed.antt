@@ -13,7 +13,7 @@ use Rattle.qt_root2.specs.Root2.{Root2, IsGood, times_root2}
 use Rattle.qt_root2.specs.Masses.{real_of_mass}
 use Rattle.qt_root2.specs.Numerators.{mass_numerator}
 use Rattle.qt_root2.specs.declared.mass.Mass.{Mass}
-use Rattle.qt_root2.proofs.Integers.{distrib_left}
+use Rattle.qt_integers.proofs.Integers.{distrib_left}
 use Rattle.qt_root2.proofs.Reals.{least_lifted}
 use Rattle.qt_plain.specs.Mass.{mass, IsPlain}
 

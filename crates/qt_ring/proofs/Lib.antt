@@ -1,4 +1,3 @@
-pub mod Whole
 pub mod RingLaws
 pub mod Coefficients
 pub mod Bits

@@ -7,7 +7,7 @@ use Rattle.std.proofs.lemmas.Nat.{mul-le}
 use Rattle.qt_ring.specs.declared.omega.Omega.{Omega}
 use Rattle.qt_ring.specs.Ring.{nil, is_nil, norm_a, norm_b, Within}
 use Rattle.qt_ring.specs.State.{all_nil, total_a, total_b}
-use Rattle.qt_ring.proofs.Whole.{two_squares, two_times, square_is, square-nonneg, square_sum, double_product, le_of_squares}
+use Rattle.qt_integers.proofs.Integers.{two_squares, two_times, square_is, square-nonneg, square_sum, double_product, le_of_squares}
 use Rattle.qt_ring.proofs.RingLaws.{same, is_nil_true, is_nil-nil, and_left, and_right}
 
 pub norm_a-nonneg : (x : Omega) → pos 0 ≤ℤ norm_a x

@@ -5,7 +5,7 @@ use Rattle.std.proofs.lemmas.Int.{ints}
 use Rattle.qt_ring.specs.declared.omega.Omega.{Omega}
 use Rattle.qt_ring.specs.Ring.{nil, one, the_omega, imaginary, plus, times, minus, conj, root, is_zero, is_nil, norm_a, norm_b, Within}
 use Rattle.std.specs.Int.RustNames.{unsigned_abs}
-use Rattle.qt_ring.proofs.Whole.{distrib, distrib_left, neg_left, neg_right, neg_plus, neg_neg, assoc}
+use Rattle.qt_integers.proofs.Integers.{distrib, distrib_left, neg_left, neg_right, neg_plus, neg_neg, assoc}
 
 abbrev pub built : ℤ → ℤ → ℤ → ℤ → Omega
 built b c d a = record { c0 = a; c1 = b; c2 = c; c3 = d }

@@ -5,7 +5,7 @@ use Rattle.std.proofs.Math.Nat.{mul-le-mul}
 use Rattle.std.proofs.lemmas.Int.{ints, unsigned_abs-mul}
 use Rattle.std.proofs.lemmas.Bool.{cases_lt}
 use Rattle.qt_root2.specs.Root2.{IsGood}
-use Rattle.qt_root2.proofs.Integers.{dif, dif_eq, dif_add, dif_sub, dif_mul, by_dif, pos_is, times_least}
+use Rattle.qt_integers.proofs.Integers.{dif, dif_eq, dif_add, dif_sub, dif_mul, by_dif, pos_is, times_least}
 
 -- ---- squares of natural numbers
 

@@ -1,5 +1,4 @@
 pub mod Good
-pub mod Integers
 pub mod Loops
 pub mod Masses
 pub mod Reals

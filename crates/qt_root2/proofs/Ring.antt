@@ -7,7 +7,7 @@ use Rattle.std.proofs.lemmas.Int.{ints}
 use Rattle.qt_root2.specs.Real.{lifted}
 use Rattle.qt_root2.specs.Root2.{Root2, times_root2, one_root2, power}
 use Rattle.qt_root2.specs.Scaling.{lifted_root2, unit, unit_inverse, unit_power}
-use Rattle.qt_root2.proofs.Integers.{dif, dif_eq, dif_add, dif_mul, by_dif, pos_is, neg_left, neg_right, neg_plus, neg_neg, distrib_left}
+use Rattle.qt_integers.proofs.Integers.{dif, dif_eq, dif_add, dif_mul, by_dif, pos_is, neg_left, neg_right, neg_plus, neg_neg, distrib_left}
 use Rattle.qt_root2.proofs.Reals.{lifted_same, lifted-add}
 
 pub same_root2 : (x y : Root2) → x.a ≡ y.a → x.b ≡ y.b → x ≡ y

@@ -14,9 +14,9 @@ use Rattle.std.proofs.lemmas.Cmp.{same_from_slice_cmp}
 use Rattle.std.proofs.lemmas.Int.{ints}
 use Rattle.std.proofs.lemmas.Map.Entries.{sum_by-remove_entry, sum_by-insert_entry}
 use Rattle.qt_root2.specs.declared.mass.Mass.{Mass}
-use Rattle.qt_root2.specs.Real.{Real, least, zero_real, plus_real}
+use Rattle.qt_root2.specs.Real.{zero_real, plus_real}
 use Rattle.qt_root2.proofs.Masses.{real_of_mass-plus, real_of_mass_is_least}
-use Rattle.qt_root2.proofs.Reals.{IsLeast, zero_real_is_least, least_is_least, plus_real-zero, plus_real-least}
+use Rattle.qt_root2.proofs.Reals.{IsLeast, zero_real_is_least, plus_real-zero}
 use Rattle.qt_run.specs.Distribution.{same_values, part}
 use Rattle.qt_run.specs.Tally.{Masses, held, numerators, real_number, whole_part, whole_part_held}
 use Rattle.qt_run.proofs.Values.{same_values_eq}

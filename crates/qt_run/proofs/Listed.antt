@@ -19,7 +19,7 @@ use Rattle.qt_root2.specs.declared.mass.Reduced.{Reduced}
 use Rattle.qt_root2.specs.Real.{Real, least, zero_real, plus_real}
 use Rattle.qt_root2.specs.Masses.{real_of_reduced}
 use Rattle.qt_root2.proofs.Masses.{real_of_mass-zero, real_of_mass_zero_only}
-use Rattle.qt_root2.proofs.Reals.{IsLeast, least-zero, least_zero_only, plus_real_assoc, plus_real_is_least, zero_real_is_least}
+use Rattle.qt_root2.proofs.Reals.{IsLeast, plus_real_assoc, plus_real_is_least, zero_real_is_least}
 use Rattle.qt_report.specs.declared.distribution.Chance.{Chance}
 use Rattle.qt_report.specs.Report.{total_of}
 use Rattle.qt_run.specs.Tree.{Point}

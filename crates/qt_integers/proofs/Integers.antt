@@ -1,7 +1,8 @@
 -- Laws of the whole numbers. An identity is proved over differences of natural numbers, where it is one of sums of products, and then carried over.
-use Rattle.std.proofs.Common.{◌≡◌, ℕ, suc, ◌+◌, ◌*◌, refl, sym, ap, ◌∙◌, subst, arith, ℤ, pos, negsuc, ◌+ℤ◌, ◌-ℤ◌, ◌*ℤ◌, ◌≤ℤ◌}
-use lib.IntN.{neg_ℤ, *ℤ_comm}
+use Rattle.std.proofs.Common.{◌≡◌, ℕ, zero, suc, ◌+◌, ◌*◌, ◌-◌, refl, sym, ap, ◌∙◌, subst, arith, ℤ, pos, negsuc, ◌+ℤ◌, ◌-ℤ◌, ◌*ℤ◌, ◌≤ℤ◌, ◌≤◌}
+use lib.IntN.{neg_ℤ, *ℤ_comm, *ℤ-one}
 use Rattle.std.proofs.lemmas.Int.{ints}
+use Rattle.std.specs.Int.RustNames.{unsigned_abs}
 
 -- a - b
 pub dif : ℕ → ℕ → ℤ
@@ -119,3 +120,50 @@ pub times_least : (x y : ℤ) → pos 0 ≤ℤ x → pos 0 ≤ℤ y → pos 0 �
 times_least (pos m) (pos n) h g = omega (arith, ints)
 times_least (negsuc m) y h g = absurd (omega (arith, ints, h))
 times_least (pos m) (negsuc n) h g = absurd (omega (arith, ints, g))
+
+two_squares_d : (a b c d e f g h : ℕ) → (dif a b *ℤ dif a b +ℤ dif c d *ℤ dif c d) *ℤ (dif e f *ℤ dif e f +ℤ dif g h *ℤ dif g h) ≡ (dif a b *ℤ dif e f -ℤ dif c d *ℤ dif g h) *ℤ (dif a b *ℤ dif e f -ℤ dif c d *ℤ dif g h) +ℤ (dif a b *ℤ dif g h +ℤ dif c d *ℤ dif e f) *ℤ (dif a b *ℤ dif g h +ℤ dif c d *ℤ dif e f)
+two_squares_d a b c d e f g h = simp (dif_add, dif_sub, dif_mul) (dif_eq _ _ _ _ (omega arith))
+
+abbrev TwoSquares : ℤ → ℤ → ℤ → ℤ → Type 0
+TwoSquares x y z w = (x *ℤ x +ℤ y *ℤ y) *ℤ (z *ℤ z +ℤ w *ℤ w) ≡ (x *ℤ z -ℤ y *ℤ w) *ℤ (x *ℤ z -ℤ y *ℤ w) +ℤ (x *ℤ w +ℤ y *ℤ z) *ℤ (x *ℤ w +ℤ y *ℤ z)
+
+-- a product of two sums of two squares is one
+pub two_squares : (x y z w : ℤ) → (x *ℤ x +ℤ y *ℤ y) *ℤ (z *ℤ z +ℤ w *ℤ w) ≡ (x *ℤ z -ℤ y *ℤ w) *ℤ (x *ℤ z -ℤ y *ℤ w) +ℤ (x *ℤ w +ℤ y *ℤ z) *ℤ (x *ℤ w +ℤ y *ℤ z)
+two_squares x y z w =
+    by_dif (λ x. TwoSquares x y z w) (λ a b.
+    by_dif (λ y. TwoSquares (dif a b) y z w) (λ c d.
+    by_dif (λ z. TwoSquares (dif a b) (dif c d) z w) (λ e f.
+    by_dif (λ w. TwoSquares (dif a b) (dif c d) (dif e f) w) (λ g h. two_squares_d a b c d e f g h) w) z) y) x
+
+-- ---- squares
+pub two_times : (x : ℤ) → pos 2 *ℤ x ≡ x +ℤ x
+unfolding lib.IntN.one
+two_times x = *ℤ_comm (pos 2) x ∙ distrib x (pos 1) (pos 1) ∙ ap (λ t. t +ℤ x *ℤ pos 1) (*ℤ-one x) ∙ ap (λ t. x +ℤ t) (*ℤ-one x)
+
+pub square_is : (x : ℤ) → x *ℤ x ≡ pos (unsigned_abs x * unsigned_abs x)
+square_is (pos n) = refl
+square_is (negsuc n) = refl
+
+pub square-nonneg : (x : ℤ) → pos 0 ≤ℤ (x *ℤ x)
+square-nonneg x = omega (arith, ints, square_is x)
+
+pub square_sum : (x y : ℤ) → (x +ℤ y) *ℤ (x +ℤ y) ≡ x *ℤ x +ℤ y *ℤ y +ℤ (x *ℤ y +ℤ x *ℤ y)
+square_sum x y = simp (distrib, distrib_left) (omega (arith, ints, *ℤ_comm y x))
+
+square_difference : (x y : ℤ) → (x -ℤ y) *ℤ (x -ℤ y) ≡ x *ℤ x +ℤ y *ℤ y -ℤ (x *ℤ y +ℤ x *ℤ y)
+square_difference x y = simp (distrib, distrib_left, neg_left, neg_right, neg_plus, neg_neg) (omega (arith, ints, *ℤ_comm y x))
+
+pub double_product : (x y : ℤ) → (x *ℤ y +ℤ x *ℤ y) ≤ℤ (x *ℤ x +ℤ y *ℤ y)
+double_product x y = omega (arith, ints, square_difference x y, square-nonneg (x -ℤ y))
+
+above : (m k d : ℕ) → k ≡ m + suc d → k * k ≤ m * m → ⊥
+above m k d e h =
+    let s : k * k ≡ (m + suc d) * (m + suc d) = ap (λ t. t * t) e in
+    omega arith
+
+by_difference : (m k t : ℕ) → k - m ≡ t → k * k ≤ m * m → k ≤ m
+by_difference m k zero e h = omega arith
+by_difference m k (suc d) e h = absurd (above m k d (omega arith) h)
+
+pub le_of_squares : (m k : ℕ) → k * k ≤ m * m → k ≤ m
+le_of_squares m k h = by_difference m k (k - m) refl h
