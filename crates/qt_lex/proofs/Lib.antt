@@ -1,0 +1,11 @@
+pub mod Tables
+pub mod Heads
+pub mod Words
+pub mod Places
+pub mod Numbers
+pub mod Counts
+pub mod Decimals
+pub mod Longest
+pub mod Single
+pub mod Exact
+pub mod Spans

@@ -1,0 +1,195 @@
+//! Bytes at places, runs of bytes, and tables of texts.
+
+ghost use Rattle.std.specs.Prelude.{◌≡◌, ◌+◌, ◌<◌, ◌≤◌, ℕ, true, false, length, map};
+ghost use Rattle.qt_lex.specs.Bytes as spec;
+
+pub const RESERVED_WORDS: [&[u8]; 53] = [
+    b"OPENQASM",
+    b"include",
+    b"qubit",
+    b"qreg",
+    b"bit",
+    b"creg",
+    b"bool",
+    b"int",
+    b"uint",
+    b"angle",
+    b"array",
+    b"const",
+    b"let",
+    b"input",
+    b"output",
+    b"gate",
+    b"def",
+    b"return",
+    b"measure",
+    b"reset",
+    b"barrier",
+    b"if",
+    b"else",
+    b"while",
+    b"for",
+    b"in",
+    b"break",
+    b"continue",
+    b"end",
+    b"ctrl",
+    b"negctrl",
+    b"inv",
+    b"pow",
+    b"gphase",
+    b"true",
+    b"false",
+    b"sizeof",
+    b"float",
+    b"complex",
+    b"duration",
+    b"stretch",
+    b"delay",
+    b"box",
+    b"durationof",
+    b"cal",
+    b"defcal",
+    b"defcalgrammar",
+    b"extern",
+    b"pragma",
+    b"euler",
+    b"switch",
+    b"case",
+    b"default",
+];
+
+pub const CONSTANTS: [&[u8]; 4] = [b"pi", b"tau", b"\xCF\x80", b"\xCF\x84"];
+
+pub const EULER_SIGNS: [&[u8]; 1] = [b"\xE2\x84\x87"];
+
+pub const SYMBOLS: [&[u8]; 45] = [
+    b"(", b")", b"[", b"]", b"{", b"}", b";", b",", b":", b"@", b"->", b"=", b"==", b"!=", b"<",
+    b"<=", b">", b">=", b"<<", b">>", b"+", b"-", b"*", b"/", b"%", b"**", b"++", b"&", b"&&",
+    b"|", b"||", b"^", b"!", b"~", b"+=", b"-=", b"*=", b"/=", b"%=", b"**=", b"&=", b"|=", b"^=",
+    b"<<=", b">>=",
+];
+
+pub const TIME_UNITS: [&[u8]; 6] = [b"dt", b"ns", b"us", b"\xC2\xB5s", b"ms", b"s"];
+
+pub const IMAGINARY_UNITS: [&[u8]; 1] = [b"im"];
+
+/// The byte at a place, 0 behind the end.
+pub fn byte_at(text: &[u8], at: usize) -> u8
+    ensures byte { result ≡ spec.byte text.now at }
+    ensures within { 0 < result → at < length text.now }
+{
+    match text.get(at) {
+        Some(byte) => *byte,
+        None => 0,
+    }
+}
+
+pub fn is_digit(byte: u8) -> bool
+    ensures { result ≡ spec.is_digit byte }
+{
+    b'0' <= byte && byte <= b'9'
+}
+
+pub fn is_letter(byte: u8) -> bool
+    ensures { result ≡ spec.is_letter byte }
+{
+    (b'A' <= byte && byte <= b'Z') || (b'a' <= byte && byte <= b'z')
+}
+
+pub fn is_name_start(byte: u8) -> bool
+    ensures { result ≡ spec.is_name_start byte }
+{
+    is_letter(byte) || byte == b'_'
+}
+
+pub fn is_name_byte(byte: u8) -> bool
+    ensures { result ≡ spec.is_name_byte byte }
+{
+    is_name_start(byte) || is_digit(byte)
+}
+
+pub fn is_blank(byte: u8) -> bool
+    ensures { result ≡ spec.is_blank byte }
+{
+    byte == b' ' || (byte == b'\t' || (byte == b'\n' || byte == b'\r'))
+}
+
+/// The first place from `at` on where no digit stands.
+pub fn digits_end(text: &[u8], at: usize) -> usize
+    requires { at ≤ length text.now }
+    ensures ahead { at ≤ result }
+    ensures within { result ≤ length text.now }
+    ensures all { spec.EachFrom (spec.byte text.now) spec.is_digit at result }
+    ensures stop { spec.is_digit (spec.byte text.now result) ≡ false }
+{
+    let mut end = at;
+    'end: while is_digit(byte_at(text, end)) {
+        end += 1;
+    }
+    end
+}
+
+/// The first place from `at` on where no letter stands.
+pub fn letters_end(text: &[u8], at: usize) -> usize
+    requires { at ≤ length text.now }
+    ensures ahead { at ≤ result }
+    ensures within { result ≤ length text.now }
+    ensures all { spec.EachFrom (spec.byte text.now) spec.is_letter at result }
+    ensures stop { spec.is_letter (spec.byte text.now result) ≡ false }
+{
+    let mut end = at;
+    'end: while is_letter(byte_at(text, end)) {
+        end += 1;
+    }
+    end
+}
+
+/// The first place from `at` on whose byte isn't of a name.
+pub fn word_end(text: &[u8], at: usize) -> usize
+    requires { at ≤ length text.now }
+    ensures ahead { at ≤ result }
+    ensures within { result ≤ length text.now }
+    ensures all { spec.EachFrom (spec.byte text.now) spec.is_name_byte at result }
+    ensures stop { spec.is_name_byte (spec.byte text.now result) ≡ false }
+{
+    let mut end = at;
+    'end: while is_name_byte(byte_at(text, end)) {
+        end += 1;
+    }
+    end
+}
+
+/// Whether a text stands at a place.
+fn stands(text: &[u8], mut at: usize, mut word: &[u8]) -> bool
+    requires plain { spec.has_no_nul word.now ≡ true }
+    requires within { at ≤ length text.now }
+    ensures value { result ≡ spec.stands (spec.byte text.now) word.entry.now at }
+    ensures inside { result ≡ true → at + length word.entry.now ≤ length text.now }
+{
+    'word: while let [first, rest @ ..] = word {
+        if byte_at(text, at) != *first {
+            return false;
+        }
+        at += 1;
+        word = rest;
+    }
+    true
+}
+
+/// The length of the longest text of a table that stands at a place, 0 where none does.
+pub fn longest_in(text: &[u8], at: usize, mut table: &[&[u8]]) -> usize
+    requires plain { spec.have_no_nul (map (λ w. w.now) table.now) ≡ true }
+    requires within { at ≤ length text.now }
+    ensures value { result ≡ spec.longest_in (spec.byte text.now) (map (λ w. w.now) table.entry.now) at }
+    ensures inside { at + result ≤ length text.now }
+{
+    let mut longest = 0;
+    'table: while let [word, rest @ ..] = table {
+        if stands(text, at, word) && word.len() > longest {
+            longest = word.len();
+        }
+        table = rest;
+    }
+    longest
+}
