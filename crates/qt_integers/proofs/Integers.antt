@@ -1,7 +1,9 @@
 -- Laws of the whole numbers. An identity is proved over differences of natural numbers, where it is one of sums of products, and then carried over.
-use Rattle.std.proofs.Common.{◌≡◌, ℕ, zero, suc, ◌+◌, ◌*◌, ◌-◌, refl, sym, ap, ◌∙◌, subst, arith, ℤ, pos, negsuc, ◌+ℤ◌, ◌-ℤ◌, ◌*ℤ◌, ◌≤ℤ◌, ◌≤◌}
+use Rattle.std.proofs.Common.{◌≡◌, ℕ, zero, suc, ◌+◌, ◌*◌, ◌-◌, ◌/◌, ◌%◌, ◌<◌, inl, inr, refl, sym, ap, ◌∙◌, subst, arith, ℤ, pos, negsuc, ◌+ℤ◌, ◌-ℤ◌, ◌*ℤ◌, ◌≤ℤ◌, ◌≤◌}
 use lib.IntN.{neg_ℤ, *ℤ_comm, *ℤ-one}
-use Rattle.std.proofs.lemmas.Int.{ints}
+use Rattle.std.proofs.lemmas.Int.{ints, unsigned_abs-mul}
+use Rattle.std.proofs.lemmas.Bool.{cases_lt}
+use Rattle.std.proofs.lemmas.Nat.{mul-le}
 use Rattle.std.specs.Int.RustNames.{unsigned_abs}
 
 -- a - b
@@ -167,3 +169,56 @@ by_difference m k (suc d) e h = absurd (above m k d (omega arith) h)
 
 pub le_of_squares : (m k : ℕ) → k * k ≤ m * m → k ≤ m
 le_of_squares m k h = by_difference m k (k - m) refl h
+
+-- ---- products that are 0
+square_zero : (n : ℕ) → n * n ≡ 0 → n ≡ 0
+square_zero zero e = refl
+square_zero (suc n) e = absurd (omega arith)
+
+other_zero : (m n : ℕ) → m * n ≡ 0 → (m ≡ 0 → ⊥) → n ≡ 0
+other_zero zero n p h = absurd (h refl)
+other_zero (suc m) n p h = omega arith
+
+pub factor_zero : (x y : ℤ) → x *ℤ y ≡ pos 0 → (x ≡ pos 0 → ⊥) → y ≡ pos 0
+factor_zero x y e h =
+    let p : unsigned_abs x * unsigned_abs y ≡ 0 = sym (unsigned_abs-mul x y) ∙ ap unsigned_abs e in
+    let z : unsigned_abs y ≡ 0 = other_zero (unsigned_abs x) (unsigned_abs y) p (λ z. h (omega (arith, ints, z))) in
+    omega (arith, ints, z)
+
+-- ---- √2 is not a fraction: a square is twice a square at 0 alone
+abbrev OnlyZeroUpTo : ℕ → Type 0
+OnlyZeroUpTo k = (m n : ℕ) → n ≤ k → n * n ≡ 2 * (m * m) → n ≡ 0
+
+even_step : (k m n q : ℕ) → OnlyZeroUpTo k → n ≤ suc k → n * n ≡ 2 * (m * m) → n ≡ 2 * q → n ≡ 0
+even_step k m n q lower h e s =
+    let square : n * n ≡ (2 * q) * (2 * q) = ap (λ t. t * t) s in
+    let half : m * m ≡ 2 * (q * q) = omega arith in
+    elim (cases_lt m n) [
+      | inl l ↦
+          let z : m ≡ 0 = lower q m (omega arith) half in
+          let none : m * m ≡ 0 * 0 = ap (λ t. t * t) z in
+          square_zero n (omega arith)
+      | inr l ↦
+          let larger : n * n ≤ m * m = mul-le n n m m l l in
+          square_zero n (omega arith)
+    ]
+
+odd_step : (m n q : ℕ) → n * n ≡ 2 * (m * m) → n ≡ 2 * q + 1 → ⊥
+odd_step m n q e s =
+    let square : n * n ≡ (2 * q + 1) * (2 * q + 1) = ap (λ t. t * t) s in
+    omega arith
+
+step : (k m n q r : ℕ) → OnlyZeroUpTo k → n ≤ suc k → n * n ≡ 2 * (m * m) → n ≡ 2 * q + r → r < 2 → n ≡ 0
+step k m n q zero lower h e s l = even_step k m n q lower h e (omega arith)
+step k m n q (suc zero) lower h e s l = absurd (odd_step m n q e s)
+step k m n q (suc (suc r)) lower h e s l = absurd (omega arith)
+
+descent : (k : ℕ) → OnlyZeroUpTo k
+descent zero m n h e = omega arith
+descent (suc k) m n h e = step k m n (n / 2) (n % 2) (descent k) h e (omega arith) (omega arith)
+
+pub twice_square : (a b : ℤ) → a *ℤ a ≡ pos 2 *ℤ (b *ℤ b) → a ≡ pos 0
+twice_square a b e =
+    let s : unsigned_abs a * unsigned_abs a ≡ 2 * (unsigned_abs b * unsigned_abs b) = omega (arith, ints, e, two_times (b *ℤ b), square_is a, square_is b) in
+    let z : unsigned_abs a ≡ 0 = descent (unsigned_abs a) (unsigned_abs b) (unsigned_abs a) (omega arith) s in
+    omega (arith, ints, z)

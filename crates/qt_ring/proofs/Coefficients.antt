@@ -1,5 +1,5 @@
 -- Sums and differences of coefficients as the code takes them: within 64 bits nothing is lost.
-use Rattle.std.proofs.Common.{◌≡◌, ℕ, ◌+◌, ◌%◌, ◌≤◌, ◌^◌, suc, sym, ap, ◌∙◌, arith, ℤ, pos, FitsSigned, MatchOption, Option, None, ◌≢◌, ◌+ℤ◌, ◌-ℤ◌, ◌*ℤ◌}
+use Rattle.std.proofs.Common.{◌≡◌, ℕ, ◌+◌, ◌*◌, ◌%◌, ◌≤◌, ◌^◌, suc, sym, ap, ◌∙◌, arith, ℤ, pos, FitsSigned, MatchOption, Option, None, ◌≢◌, ◌+ℤ◌, ◌-ℤ◌, ◌*ℤ◌}
 use Rattle.std.specs.Int.RustNames.{unsigned_abs}
 use mir.Val.{to_z, of_z}
 use mir.Syntax.{w64, w128}
@@ -25,6 +25,28 @@ trip_difference a b h k = omega (arith, ints)
 pub trip_negative : (a : ℤ) → unsigned_abs a ≤ 2 ^ 54 → trip (pos 0 -ℤ trip a) ≡ neg_ℤ a
 trip_negative a h = omega (arith, ints)
 
+pub trip_opposite : (a : ℤ) → unsigned_abs a ≤ 2 ^ 54 → trip (pos 0 -ℤ trip a) ≡ pos 0 -ℤ a
+trip_opposite a h = omega (arith, ints)
+
+-- sums of three, and sizes of them
+pub trip_two_less : (a b c : ℤ) → unsigned_abs a ≤ 2 ^ 54 → unsigned_abs b ≤ 2 ^ 54 → unsigned_abs c ≤ 2 ^ 54 → trip (trip (trip a +ℤ trip b) -ℤ trip c) ≡ a +ℤ b -ℤ c
+trip_two_less a b c h k l = omega (arith, ints)
+
+pub trip_three : (a b c : ℤ) → unsigned_abs a ≤ 2 ^ 54 → unsigned_abs b ≤ 2 ^ 54 → unsigned_abs c ≤ 2 ^ 54 → trip (trip (trip a +ℤ trip b) +ℤ trip c) ≡ a +ℤ b +ℤ c
+trip_three a b c h k l = omega (arith, ints)
+
+pub trip_less_two : (a b c : ℤ) → unsigned_abs a ≤ 2 ^ 54 → unsigned_abs b ≤ 2 ^ 54 → unsigned_abs c ≤ 2 ^ 54 → trip (trip (trip a -ℤ trip b) -ℤ trip c) ≡ a -ℤ b -ℤ c
+trip_less_two a b c h k l = omega (arith, ints)
+
+pub size_two_less : (a b c : ℤ) → unsigned_abs a ≤ 2 ^ 54 → unsigned_abs b ≤ 2 ^ 54 → unsigned_abs c ≤ 2 ^ 54 → unsigned_abs (trip (trip (trip a +ℤ trip b) -ℤ trip c)) ≤ 3 * 2 ^ 54
+size_two_less a b c h k l = rw (trip_two_less a b c h k l) (omega (arith, ints))
+
+pub size_three : (a b c : ℤ) → unsigned_abs a ≤ 2 ^ 54 → unsigned_abs b ≤ 2 ^ 54 → unsigned_abs c ≤ 2 ^ 54 → unsigned_abs (trip (trip (trip a +ℤ trip b) +ℤ trip c)) ≤ 3 * 2 ^ 54
+size_three a b c h k l = rw (trip_three a b c h k l) (omega (arith, ints))
+
+pub size_less_two : (a b c : ℤ) → unsigned_abs a ≤ 2 ^ 54 → unsigned_abs b ≤ 2 ^ 54 → unsigned_abs c ≤ 2 ^ 54 → unsigned_abs (trip (trip (trip a -ℤ trip b) -ℤ trip c)) ≤ 3 * 2 ^ 54
+size_less_two a b c h k l = rw (trip_less_two a b c h k l) (omega (arith, ints))
+
 one_times : (x : ℤ) → pos 1 *ℤ x ≡ x
 unfolding lib.IntN.one
 one_times x = *ℤ_comm (pos 1) x ∙ *ℤ-one x
@@ -44,6 +66,41 @@ one_more j x r s h k =
 pub all_turned : (j : ℕ) (x r : Omega) → r ≡ times (root (j % 8)) x → r ≡ times (root j) x
 all_turned j x r h = h ∙ ap (λ t. times t x) (root_mod j)
 
+-- ---- differences from half a sum of four
+pub record IsHalfOfFour (h a b c d : ℤ) : Type 0 where
+  pub value : a +ℤ b +ℤ c +ℤ d ≡ h +ℤ h
+  pub a_in : unsigned_abs a ≤ 2 ^ 54
+  pub b_in : unsigned_abs b ≤ 2 ^ 54
+  pub c_in : unsigned_abs c ≤ 2 ^ 54
+  pub d_in : unsigned_abs d ≤ 2 ^ 54
+
+pub half_size : (h a b c d : ℤ) → IsHalfOfFour h a b c d → unsigned_abs h ≤ 2 ^ 55
+half_size h a b c d i = omega (arith, ints)
+
+pub trip_half : (h a b c d : ℤ) → IsHalfOfFour h a b c d → trip h ≡ h
+trip_half h a b c d i = omega (arith, ints)
+
+pub trip_half_less : (h a b c d : ℤ) → IsHalfOfFour h a b c d → trip (trip h -ℤ trip d) ≡ h -ℤ d
+trip_half_less h a b c d i = omega (arith, ints)
+
+pub trip_half_less_two : (h a b c d : ℤ) → IsHalfOfFour h a b c d → trip (trip (trip h -ℤ trip d) -ℤ trip c) ≡ h -ℤ d -ℤ c
+trip_half_less_two h a b c d i = rw (trip_half_less h a b c d i) (omega (arith, ints))
+
+pub trip_half_less_three : (h a b c d : ℤ) → IsHalfOfFour h a b c d → trip (trip (trip (trip h -ℤ trip d) -ℤ trip c) -ℤ trip b) ≡ h -ℤ d -ℤ c -ℤ b
+trip_half_less_three h a b c d i = rw (trip_half_less_two h a b c d i) (omega (arith, ints))
+
+pub fits_half_less_two : (h a b c d : ℤ) → IsHalfOfFour h a b c d → FitsSigned w64 (trip (trip h -ℤ trip d) -ℤ trip c)
+fits_half_less_two h a b c d i = rw (trip_half_less h a b c d i) (omega (arith, ints))
+
+pub fits_half_less_three : (h a b c d : ℤ) → IsHalfOfFour h a b c d → FitsSigned w64 (trip (trip (trip h -ℤ trip d) -ℤ trip c) -ℤ trip b)
+fits_half_less_three h a b c d i = rw (trip_half_less_two h a b c d i) (omega (arith, ints))
+
+pub size_of : (t z : ℤ) (m : ℕ) → t ≡ z → unsigned_abs z ≤ m → unsigned_abs t ≤ m
+size_of t z m e h = rw e h
+
+pub trip_four : (a b c d : ℤ) → unsigned_abs a ≤ 2 ^ 54 → unsigned_abs b ≤ 2 ^ 54 → unsigned_abs c ≤ 2 ^ 54 → unsigned_abs d ≤ 2 ^ 54 → trip (trip (trip (trip a +ℤ trip b) +ℤ trip c) +ℤ trip d) ≡ a +ℤ b +ℤ c +ℤ d
+trip_four a b c d h k l m = rw (trip_three a b c h k l) (omega (arith, ints))
+
 -- ---- and within 128 bits
 less_is : (x w : ℤ) → x +ℤ (pos 0 -ℤ w) ≡ x -ℤ w
 less_is x w = omega (arith, ints)
@@ -57,7 +114,7 @@ opposite_size a h = omega (arith, ints)
 abbrev pub wide : ℤ → ℤ
 wide z = to_z w128 (of_z w128 z)
 
-wide_is : (z : ℤ) → unsigned_abs z ≤ 2 ^ 112 → wide z ≡ z
+pub wide_is : (z : ℤ) → unsigned_abs z ≤ 2 ^ 112 → wide z ≡ z
 wide_is z h = omega (arith, ints)
 
 wide_opposite : (z : ℤ) → unsigned_abs z ≤ 2 ^ 108 → wide (pos 0 -ℤ wide z) ≡ pos 0 -ℤ z

@@ -1,10 +1,11 @@
 -- What the four gates do to each entry: the entry at number i by the entries at i and at its twin, i with the bit of the
 -- target turned.
-use Rattle.std.proofs.Common.{◌≡◌, ◌≢◌, ℕ, zero, suc, ◌+◌, ◌-◌, ◌^◌, ◌<◌, Bool, true, false, List, [], ◌∷◌, length, get_or, refl, sym, ap, ◌∙◌, arith, pos, negsuc}
+use Rattle.std.proofs.Common.{◌≡◌, ◌≢◌, ℕ, zero, suc, ◌+◌, ◌-◌, ◌^◌, ◌<◌, Bool, true, false, List, [], ◌∷◌, length, get_or, refl, sym, ap, ◌∙◌, arith}
 use Rattle.std.specs.Int.{bit_at}
 use Rattle.std.proofs.lemmas.List.FromFn.{get_or-map-range_with_len, length-map-range_with_len, fill_by_all}
 use Rattle.std.proofs.lemmas.Nat.Bits.{bit_at-lt}
 use Rattle.qt_ring.specs.declared.omega.Omega.{Omega}
+pub use Rattle.qt_ring.specs.Ring.{root_two}
 use Rattle.qt_ring.specs.Ring.{nil, one, the_omega, imaginary, plus, times, minus, two_to, root}
 use Rattle.qt_ring.specs.Places.{Bits, at, is_one, bits_of, AreQubits}
 use Rattle.qt_ring.specs.Matrix.{Matrix, Operator}
@@ -12,14 +13,11 @@ use Rattle.qt_ring.specs.State.{State, HasAllEntries, entries_by, applied}
 use Rattle.qt_ring.specs.Gates.{h_gate, x_gate, t_gate, cx_gate}
 use Rattle.qt_ring.proofs.RingLaws.{plus-nil, nil-plus, nil-times, one-times, times-plus, plus-times, times-minus, minus-times, plus_both}
 use Rattle.qt_ring.proofs.Bits.{put}
+use Rattle.qt_ring.proofs.Dividing.{times_two}
 use Rattle.qt_ring.proofs.Sums.{Vector, act}
 use Rattle.qt_ring.proofs.Acts.{choose, act_ctrl}
 use Rattle.qt_ring.proofs.Entries.{entry, at_bits_of, at_one, at_zero, number_bits_of, number_set, number_clear, number_same}
 use Rattle.qt_ring.proofs.Products.{embedded_acts}
-
--- √2, which is ω − ω³
-abbrev pub root_two : Omega
-root_two = record { c0 = pos 0; c1 = pos 1; c2 = pos 0; c3 = negsuc 0 }
 
 abbrev pub twice : Omega → Omega
 twice z = plus z z
@@ -86,9 +84,6 @@ act_one n q i m es l h e =
     (ap (λ k. times (m (true ∷ []) (true ∷ [])) (get_or es k nil)) (number_same n q i true l (at_one n q i h e)))
 
 -- ---- the rows, by the entries e
-pub two_times : (z : Omega) → times (two_to 1) z ≡ twice z
-two_times z = plus-times one one z ∙ plus_both _ _ _ _ (one-times z) (one-times z)
-
 abbrev pub h_row : ℕ → (ℕ → Omega) → ℕ → Omega
 h_row q e i = choose (is_one (bit_at i q)) (times root_two (plus (e (i - 2 ^ q)) (minus (e i)))) (times root_two (plus (e i) (e (i + 2 ^ q))))
 
@@ -137,13 +132,13 @@ x_by n q i es l h = by_bit (bit_at i q) (bit_at-lt i q)
     act_zero n q i x_gate.entries es l h e
     ∙ plus_both _ _ _ _ (ap (λ t. times t (get_or es i nil)) x_entries.1 ∙ nil-times (get_or es i nil)) (ap (λ t. times t (get_or es (i + 2 ^ q) nil)) x_entries.2)
     ∙ nil-plus (times (two_to 1) (get_or es (i + 2 ^ q) nil))
-    ∙ two_times (get_or es (i + 2 ^ q) nil)
+    ∙ times_two (get_or es (i + 2 ^ q) nil)
     ∙ sym (choose_zero i q _ _ e))
     (λ e.
     act_one n q i x_gate.entries es l h e
     ∙ plus_both _ _ _ _ (ap (λ t. times t (get_or es (i - 2 ^ q) nil)) x_entries.3) (ap (λ t. times t (get_or es i nil)) x_entries.4 ∙ nil-times (get_or es i nil))
     ∙ plus-nil (times (two_to 1) (get_or es (i - 2 ^ q) nil))
-    ∙ two_times (get_or es (i - 2 ^ q) nil)
+    ∙ times_two (get_or es (i - 2 ^ q) nil)
     ∙ sym (choose_one i q _ _ e))
 
 pub x_multiplies : (s : State) (q i : ℕ) → q < s.qubits → HasAllEntries s → i < 2 ^ s.qubits → get_or (applied x_gate (q ∷ []) s).entries i nil ≡ x_row q (λ j. get_or s.entries j nil) i
@@ -166,7 +161,7 @@ cx_multiplies s c q i k h d e l =
     ∙ ap (λ t. choose t (act x_gate.entries (q ∷ []) (entry s.entries) (bits_of s.qubits i)) (times (two_to 1) (entry s.entries (bits_of s.qubits i)))) (at_bits_of s.qubits c i k)
     ∙ ap (λ a. choose (is_one (bit_at i c)) a (times (two_to 1) (entry s.entries (bits_of s.qubits i)))) (x_by s.qubits q i s.entries l h)
     ∙ ap (λ j. choose (is_one (bit_at i c)) (x_row q (λ j. get_or s.entries j nil) i) (times (two_to 1) (get_or s.entries j nil))) (number_bits_of s.qubits i l)
-    ∙ ap (choose (is_one (bit_at i c)) (x_row q (λ j. get_or s.entries j nil) i)) (two_times (get_or s.entries i nil))
+    ∙ ap (choose (is_one (bit_at i c)) (x_row q (λ j. get_or s.entries j nil) i)) (times_two (get_or s.entries i nil))
 
 -- ---- lists that have these rows are what the gates make
 pub entries_follow : (g : Operator) (qs : List ℕ) (s : State) (new : List Omega) → length new ≡ 2 ^ s.qubits → ((i : ℕ) → i < 2 ^ s.qubits → get_or new i nil ≡ get_or (applied g qs s).entries i nil) → new ≡ (applied g qs s).entries

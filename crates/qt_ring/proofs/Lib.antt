@@ -12,3 +12,7 @@ pub mod Norms
 pub mod Bell
 pub mod States
 pub mod Twins
+pub mod Dividing
+pub mod Rows
+pub mod Units
+pub mod Unitary

@@ -19,13 +19,13 @@ mass n v = sum n (λ x. norm (v x))
 pub norm-times : (a b : Omega) → norm (times a b) ≡ times (norm a) (norm b)
 norm-times a b = ap (times (times a b)) (conj_times a b) ∙ times_cross a b (conj a) (conj b)
 
-norm-plus : (x y : Omega) → norm (plus x y) ≡ plus (plus (norm x) (norm y)) (plus (times x (conj y)) (times y (conj x)))
+pub norm-plus : (x y : Omega) → norm (plus x y) ≡ plus (plus (norm x) (norm y)) (plus (times x (conj y)) (times y (conj x)))
 norm-plus x y =
     ap (times (plus x y)) (conj_plus x y) ∙ plus-times x y (plus (conj x) (conj y))
     ∙ plus_both _ _ _ _ (times-plus x (conj x) (conj y)) (times-plus y (conj x) (conj y) ∙ plus_comm (times y (conj x)) (times y (conj y)))
     ∙ plus_cross (norm x) (times x (conj y)) (norm y) (times y (conj x))
 
-mixed : (a b p q : Omega) → times (times a p) (conj (times b q)) ≡ times (times a (conj b)) (times p (conj q))
+pub mixed : (a b p q : Omega) → times (times a p) (conj (times b q)) ≡ times (times a (conj b)) (times p (conj q))
 mixed a b p q = ap (times (times a p)) (conj_times b q) ∙ times_cross a p (conj b) (conj q)
 
 norm_row : (a b p q : Omega) → norm (plus (times a p) (times b q)) ≡ plus (plus (times (norm a) (norm p)) (times (norm b) (norm q))) (plus (times (times a (conj b)) (times p (conj q))) (times (times b (conj a)) (times q (conj p))))

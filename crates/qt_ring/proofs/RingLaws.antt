@@ -175,7 +175,7 @@ root-plus (suc m) n =
     let s : suc m + n ≡ suc (m + n) = omega arith in
     ap root s ∙ ap (times the_omega) (root-plus m n) ∙ sym (times_assoc the_omega (root m) (root n))
 
-root_turns : (t n : ℕ) → root (8 * t + n) ≡ root n
+pub root_turns : (t n : ℕ) → root (8 * t + n) ≡ root n
 root_turns zero n = let e : 8 * 0 + n ≡ n = omega arith in ap root e
 root_turns (suc t) n =
     let e : 8 * suc t + n ≡ 8 + (8 * t + n) = omega arith in

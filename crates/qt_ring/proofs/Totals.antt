@@ -5,6 +5,7 @@ use Rattle.std.proofs.lemmas.Int.{ints}
 use Rattle.std.proofs.lemmas.List.FromFn.{get_or-map-range_with_len, length-map-range_with_len}
 use Rattle.std.specs.List.{range_with_len}
 use Rattle.qt_ring.specs.declared.omega.Omega.{Omega}
+pub use Rattle.qt_ring.specs.Ring.{whole}
 use Rattle.qt_ring.specs.Ring.{nil, one, the_omega, imaginary, plus, times, minus, conj, two_to, root}
 use Rattle.qt_ring.specs.Places.{Bits, at, equal_bits, bits_of, AreQubits}
 use Rattle.qt_ring.specs.Matrix.{Operator, kept, sum}
@@ -63,9 +64,6 @@ total_sum n f =
     (t.0 ∙ ap (λ (t : Omega). t.c0) m, t.1 ∙ ap (λ (t : Omega). t.c1) m)
 
 -- ---- a factor on the sum
-abbrev pub whole : ℤ → Omega
-whole k = record { c0 = k; c1 = pos 0; c2 = pos 0; c3 = pos 0 }
-
 whole_times : (k : ℤ) (z : Omega) → ((times (whole k) z).c0 ≡ k *ℤ z.c0) × ((times (whole k) z).c1 ≡ k *ℤ z.c1)
 unfolding times
 whole_times k z = (simp zero-*ℤ (omega (arith, ints)), simp zero-*ℤ (omega (arith, ints)))

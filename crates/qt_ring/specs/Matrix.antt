@@ -1,9 +1,9 @@
 -- Full matrices on qubits: products, the identity, a matrix under control, and the embedding of a matrix on chosen qubits
 -- into all qubits of a program (OpenQASM 3.0 live specification, "Gates": hierarchically defined gates, control modifiers;
 -- Cross et al. 2022, section 3.3). A matrix is a function of two basis states, the row and the column.
-use Rattle.std.specs.Prelude.{ℕ, zero, suc, ◌+◌, Bool, true, false, List, [], ◌∷◌}
+use Rattle.std.specs.Prelude.{◌≡◌, ℕ, zero, suc, ◌+◌, Bool, true, false, List, [], ◌∷◌, length}
 use Rattle.qt_ring.specs.declared.omega.Omega.{Omega}
-use Rattle.qt_ring.specs.Ring.{nil, one, plus, times, minus, imaginary, two_to, root}
+use Rattle.qt_ring.specs.Ring.{nil, one, plus, times, minus, conj, imaginary, two_to, root}
 use Rattle.qt_ring.specs.Places.{Bits, get, agree_outside}
 
 abbrev pub Matrix : Type 0
@@ -27,6 +27,10 @@ sum (suc n) f = plus (sum n (λ x. f (false ∷ x))) (sum n (λ x. f (true ∷ x
 
 abbrev pub product : ℕ → Matrix → Matrix → Matrix
 product n a b x y = sum n (λ z. times (a x z) (b z y))
+
+-- the conjugate transpose
+abbrev pub adjoint : Matrix → Matrix
+adjoint m x y = conj (m y x)
 
 -- 2^h on the diagonal
 abbrev pub identity : ℕ → Matrix
@@ -56,6 +60,11 @@ pub record Operator : Type 0 where
   pub size : ℕ
   pub halvings : ℕ
   pub entries : Matrix
+
+-- its product with its conjugate transpose, in either order, is 1: as it stands over 2^halvings, 4^halvings
+pub record IsUnitary (g : Operator) : Type 0 where
+  pub rows : (x y : Bits) → length x ≡ g.size → length y ≡ g.size → product g.size g.entries (adjoint g.entries) x y ≡ identity (g.halvings + g.halvings) x y
+  pub columns : (x y : Bits) → length x ≡ g.size → length y ≡ g.size → product g.size (adjoint g.entries) g.entries x y ≡ identity (g.halvings + g.halvings) x y
 
 -- U with its three angles in eighths of a turn
 abbrev pub u_gate : ℕ → ℕ → ℕ → Operator

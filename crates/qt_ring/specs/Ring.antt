@@ -1,7 +1,7 @@
 -- Numbers of the ring Z[ω], ω = e^{iπ/4}: c0 + c1 ω + c2 ω² + c3 ω³ with whole coefficients, where ω⁴ = −1.
 -- Where all angles are multiples of π/4, every entry of a gate's matrix is such a number divided by a power of two
 -- (OpenQASM 3.0 live specification, "Gates", the built-in gates U and gphase; Cross et al. 2022, section 3.3).
-use Rattle.std.specs.Prelude.{ℕ, zero, suc, ℤ, pos, ◌+ℤ◌, ◌-ℤ◌, ◌*ℤ◌, ◌≤◌, Bool, true, false, ◌&&◌}
+use Rattle.std.specs.Prelude.{ℕ, zero, suc, ℤ, pos, negsuc, ◌+ℤ◌, ◌-ℤ◌, ◌*ℤ◌, ◌≤◌, Bool, true, false, ◌&&◌}
 use Rattle.std.specs.Int.RustNames.{unsigned_abs}
 use Rattle.qt_ring.specs.declared.omega.Omega.{Omega}
 
@@ -13,6 +13,10 @@ nil = record { c0 = pos 0; c1 = pos 0; c2 = pos 0; c3 = pos 0 }
 unfoldable pub one : Omega
 one = record { c0 = pos 1; c1 = pos 0; c2 = pos 0; c3 = pos 0 }
 
+-- a whole number
+abbrev pub whole : ℤ → Omega
+whole k = record { c0 = k; c1 = pos 0; c2 = pos 0; c3 = pos 0 }
+
 -- ω
 unfoldable pub the_omega : Omega
 the_omega = record { c0 = pos 0; c1 = pos 1; c2 = pos 0; c3 = pos 0 }
@@ -20,6 +24,10 @@ the_omega = record { c0 = pos 0; c1 = pos 1; c2 = pos 0; c3 = pos 0 }
 -- i, which is ω²
 unfoldable pub imaginary : Omega
 imaginary = record { c0 = pos 0; c1 = pos 0; c2 = pos 1; c3 = pos 0 }
+
+-- √2, which is ω − ω³
+abbrev pub root_two : Omega
+root_two = record { c0 = pos 0; c1 = pos 1; c2 = pos 0; c3 = negsuc 0 }
 
 unfoldable pub plus : Omega → Omega → Omega
 plus x y = record { c0 = x.c0 +ℤ y.c0; c1 = x.c1 +ℤ y.c1; c2 = x.c2 +ℤ y.c2; c3 = x.c3 +ℤ y.c3 }
@@ -39,6 +47,18 @@ times x y = record {
 -- the complex conjugate: ω goes to −ω³
 unfoldable pub conj : Omega → Omega
 conj x = record { c0 = x.c0; c1 = pos 0 -ℤ x.c3; c2 = pos 0 -ℤ x.c2; c3 = pos 0 -ℤ x.c1 }
+
+-- 1 − ω
+unfoldable pub one_minus_omega : Omega
+one_minus_omega = plus one (minus the_omega)
+
+-- ε, the unit 1 + √2
+unfoldable pub epsilon : Omega
+epsilon = plus one root_two
+
+-- its inverse √2 − 1
+unfoldable pub epsilon_inverse : Omega
+epsilon_inverse = plus root_two (minus one)
 
 -- e^{i n π/4}: ω multiplied n times
 abbrev pub root : ℕ → Omega

@@ -51,6 +51,14 @@ pub narrow : (a b : ℤ) → IsGood a b → IsNarrow a b
 narrow (pos p) b h = narrow_at p b (root_bound (unsigned_abs b) p (squares_at p b h))
 narrow (negsuc p) b h = absurd (omega (arith, ints, h.0))
 
+narrow_bound : (a b : ℤ) → IsNarrow a b → pos (unsigned_abs b) ≤ℤ a
+narrow_bound a (pos m) n = omega (arith, ints, n.above, n.least)
+narrow_bound a (negsuc m) n = omega (arith, ints, n.below, n.least)
+
+-- |b| ≤ a
+pub good_bounded : (a b : ℤ) → IsGood a b → pos (unsigned_abs b) ≤ℤ a
+good_bounded a b h = narrow_bound a b (narrow a b h)
+
 abs_plus : (b d : ℤ) → unsigned_abs (b +ℤ d) ≤ unsigned_abs b + unsigned_abs d
 abs_plus (pos m) (pos n) = omega arith
 abs_plus (negsuc m) (negsuc n) = omega arith

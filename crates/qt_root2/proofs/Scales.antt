@@ -137,3 +137,11 @@ up_none by x w m n e l s positive large y k =
 pub up_large : (by : Scale) (x p : Root2) (w m : ℤ) (n : ℕ) → w ≡ by.units → pos 0 ≤ℤ by.twos → n ≡ unsigned_abs by.twos → p ≡ times_root2 x (times_root2 (unit_power w) (power prime by.primes)) → m ≤ℤ (lifted_root2 p n).a → (y : Root2) → IsScaled by x y → m ≤ℤ y.a
 up_large by x p w m n e l s h large y k =
     product_large (times_root2 x (factor by)) p y m n (h ∙ ap (λ z. times_root2 x (times_root2 (unit_power z) (power prime by.primes))) e) large (from_times_twos_up by.twos n (times_root2 x (factor by)) y l s k)
+
+-- ---- a number scaled is one number at most
+times_twos_one : (z : ℤ) (x y w : Root2) → IsTimesTwos z x y → IsTimesTwos z x w → y ≡ w
+times_twos_one (pos n) x y w e f = e ∙ sym f
+times_twos_one (negsuc n) x y w e f = lifted_root2_same (suc n) y w (e ∙ sym f)
+
+pub scaled_is_one : (by : Scale) (x y z : Root2) → IsScaled by x y → IsScaled by x z → y ≡ z
+scaled_is_one by x y z e f = times_twos_one by.twos (times_root2 x (factor by)) y z e f

@@ -1,3 +1,4 @@
+pub mod Laws
 pub mod Masses
 pub mod Numerators
 pub mod Real

@@ -29,6 +29,18 @@ impl Weight {
         }
     }
 
+    /// The sum. The caller keeps its `a` at `2^126` or below.
+    pub fn plus(self, other: Weight) -> Weight
+        requires { (self.a +ℤ other.a) ≤ℤ pos (2 ^ 126) }
+        ensures a { result.a ≡ self.a +ℤ other.a }
+        ensures b { result.b ≡ self.b +ℤ other.b }
+    {
+        Weight {
+            a: self.a + other.a,
+            b: self.b + other.b,
+        }
+    }
+
     /// It times `2^twos · ε^(2·units) · (2 − √2)^primes`. The fault comes where that is not whole over `2^96`, or has an `a` of `2^100` or more.
     pub fn scaled(self, by: Scale) -> Result<Weight, NumberFault>
         requires twos { unsigned_abs by.twos ≤ 1024 }
