@@ -32,7 +32,7 @@ abbrev pub class : Kind → ℕ → Bool
 class Name h = eqb h 0
 class Reserved h = eqb h 0
 class Integer h = eqb h 1
-class Wide h = eqb h 1
+class Wide h = eqb h 1 || eqb h 2
 class Decimal h = eqb h 1
 class Timing h = eqb h 1
 class Imaginary h = eqb h 1
@@ -46,6 +46,9 @@ class End h = false
 
 number_no_word : (c : ℕ) → may_begin_number c ≡ true → is_name_start c ≡ true → ⊥
 number_no_word c h g = grind arith
+
+pub number_no_quote : (c : ℕ) → may_begin_number c ≡ true → is_quote c ≡ true → ⊥
+number_no_quote c h g = grind arith
 
 pub head_word : (c : ℕ) → is_name_start c ≡ true → head c ≡ 0
 head_word c h = ap (λ t. cond t 0 (head_1 c)) h
@@ -78,6 +81,9 @@ module _ (b : ℕ → ℕ) where
     | inr t ↦ elim t [ inl h ↦ ap is_digit (eqb_same (b i) 48 (and_left _ (eqb (b (i + 1)) 88 && true) h.0)) | inr n ↦ absurd n ]
   ]
 
+  pub quote_no_whole : (r : Radix) (s i j : ℕ) → is_quote (b i) ≡ true → IsWhole b r s i j → ⊥
+  quote_no_whole r s i j q w = number_no_quote (b i) (or_left (is_digit (b i)) (eqb (b i) 46) (whole_head r s i j w)) q
+
   pointed_head : (p i j : ℕ) → IsPointed b p i j → may_begin_number (b i) ≡ true
   pointed_head p i j h = elim (compare i p) [
     | inl lt ↦ or_left (is_digit (b i)) (eqb (b i) 46) (h.before i (omega arith) lt)
@@ -103,11 +109,12 @@ module _ (b : ℕ → ℕ) where
   head_is Name i j h = ap (λ t. eqb t 0) (head_word (b i) h.0.first)
   head_is Reserved i j h = (head_of_one b (λ c. eqb (head c) 0) reserved_words i j refl h).0
   head_is Integer i j (r, s, w, lt) = number_class (b i) (or_left _ _ (whole_head r s i j w))
-  head_is Wide i j (r, s, w, le) = number_class (b i) (or_left _ _ (whole_head r s i j w))
+  head_is Wide i j (inl (r, s, w, le)) = or_left (eqb (head (b i)) 1) (eqb (head (b i)) 2) (number_class (b i) (or_left _ _ (whole_head r s i j w)))
+  head_is Wide i j (inr h) = ap (λ t. eqb t 1 || eqb t 2) (head_quote (b i) h.0.quote)
   head_is Decimal i j h = number_class (b i) (decimal_head i j h)
   head_is Timing i j (m, p, u) = number_class (b i) (plain_head i m p)
   head_is Imaginary i j (m, p, u) = number_class (b i) (plain_head i m p)
-  head_is Text i j h = ap (λ t. eqb t 2) (head_quote (b i) h.quote)
+  head_is Text i j h = ap (λ t. eqb t 2) (head_quote (b i) h.0.quote)
   head_is Hardware i j h = ap (λ t. eqb (head t) 3) h.first
   head_is Hash i j h = ap (λ t. eqb (head t) 4) h.first
   head_is Symbol i j h = (head_of_one b (λ c. eqb (head c) 5) symbols i j refl h).0

@@ -4,6 +4,7 @@ pub mod Words
 pub mod Places
 pub mod Numbers
 pub mod Counts
+pub mod BitRuns
 pub mod Decimals
 pub mod Longest
 pub mod Single

@@ -9,7 +9,7 @@ use Rattle.qt_lex.specs.Numbers.{is_digit_of, goes_on, IsDigits, IsWhole, IsDeci
 use Rattle.qt_lex.specs.Tokens.{IsToken, Longest, NoToken}
 use Rattle.qt_lex.specs.Answers.{is_decimal_byte, IsPreferred, IsLongestDecimal, IsWithUnit}
 use Rattle.qt_lex.proofs.Tables.{and_left, and_right, or_left, or_right, or_cases, not_false, eqb_same, compare, head_of_one}
-use Rattle.qt_lex.proofs.Heads.{may_begin_number, head_number, whole_head, other}
+use Rattle.qt_lex.proofs.Heads.{may_begin_number, number_no_quote, head_number, whole_head, other}
 use Rattle.qt_lex.proofs.Numbers.{is_mark, is_hexadecimal, digit_is_hexadecimal, whole_others, whole_decimal}
 
 -- the units but `dt` begin with no byte of a number
@@ -76,7 +76,8 @@ module _ (b : ℕ → ℕ) where
 
   decimal_bounds : (i e j : ℕ) → IsDecimal b i e → IsLongestDecimal b i e → Reach e j → may_begin_number (b i) ≡ true → (k : Kind) (j' : ℕ) → IsToken b k i j' → j' ≤ j
   decimal_bounds i e j d long x n Integer j' (q, t, w, lt) = let u : j' < e = (whole_decimal b q t i j' e w d).0 in let v : e ≤ j = x.ahead in omega (arith, u, v)
-  decimal_bounds i e j d long x n Wide j' (q, t, w, lt) = let u : j' < e = (whole_decimal b q t i j' e w d).0 in let v : e ≤ j = x.ahead in omega (arith, u, v)
+  decimal_bounds i e j d long x n Wide j' (inr h) = absurd (number_no_quote (b i) n h.0.quote)
+  decimal_bounds i e j d long x n Wide j' (inl (q, t, w, lt)) = let u : j' < e = (whole_decimal b q t i j' e w d).0 in let v : e ≤ j = x.ahead in omega (arith, u, v)
   decimal_bounds i e j d long x n Decimal j' h = let u : j' ≤ e = (long j' h).0 in let v : e ≤ j = x.ahead in omega (arith, u, v)
   decimal_bounds i e j d long x n Timing j' (m, inl (q, t, w), u) = absurd (unit_no_decimal m j' u (whole_decimal b q t i m e w d).1)
   decimal_bounds i e j d long x n Timing j' (m, inr h, u) = elim (compare m e) [
@@ -158,7 +159,8 @@ module _ (b : ℕ → ℕ) where
   whole_bounds : (r : Radix) (s i e j : ℕ) → Whole r s i e → Reach e j → (IsDigits b r s (e - 1) → b (e - 1) ≡ 100 → b e ≡ 116 → e + 1 ≤ j) → may_begin_number (b i) ≡ true
       → (k : Kind) (j' : ℕ) → IsToken b k i j' → j' ≤ j
   whole_bounds r s i e j w x cut n Integer j' (q, t, v, lt) = let u : j' ≤ e = whole_le r s i e w q t j' v in let z : e ≤ j = x.ahead in omega (arith, u, z)
-  whole_bounds r s i e j w x cut n Wide j' (q, t, v, lt) = let u : j' ≤ e = whole_le r s i e w q t j' v in let z : e ≤ j = x.ahead in omega (arith, u, z)
+  whole_bounds r s i e j w x cut n Wide j' (inr h) = absurd (number_no_quote (b i) n h.0.quote)
+  whole_bounds r s i e j w x cut n Wide j' (inl (q, t, v, lt)) = let u : j' ≤ e = whole_le r s i e w q t j' v in let z : e ≤ j = x.ahead in omega (arith, u, z)
   whole_bounds r s i e j w x cut n Decimal j' h = absurd (w.no_decimal j' h)
   whole_bounds r s i e j w x cut n Timing j' (m, inl (q, t, v), u) = time_le r s i e j m j' q t w x cut v u
   whole_bounds r s i e j w x cut n Timing j' (m, inr h, u) = absurd (w.no_decimal m h)
@@ -219,7 +221,8 @@ module _ (b : ℕ → ℕ) where
 
   pub no_number : (i : ℕ) → may_begin_number (b i) ≡ true → ((t : ℕ) → IsDecimal b i t → ⊥) → is_digit (b i) ≡ false → NoToken b i
   no_number i n none stop Integer j (r, s, w, lt) = let v : is_digit (b i) ≡ true = whole_head b r s i j w in cc (v, stop)
-  no_number i n none stop Wide j (r, s, w, lt) = let v : is_digit (b i) ≡ true = whole_head b r s i j w in cc (v, stop)
+  no_number i n none stop Wide j (inr h) = number_no_quote (b i) n h.0.quote
+  no_number i n none stop Wide j (inl (r, s, w, lt)) = let v : is_digit (b i) ≡ true = whole_head b r s i j w in cc (v, stop)
   no_number i n none stop Decimal j h = none j h
   no_number i n none stop Timing j (m, inl (r, s, w), u) = let v : is_digit (b i) ≡ true = whole_head b r s i m w in cc (v, stop)
   no_number i n none stop Timing j (m, inr h, u) = none m h

@@ -51,7 +51,7 @@ digit_is_hexadecimal radix.Octal c h = grind arith
 digit_is_hexadecimal radix.Decimal c h = grind arith
 digit_is_hexadecimal radix.Hexadecimal c h = h
 
-prefix_inverse : (c d : ℕ) (r : Radix) → prefix_of c d ≡ Some r
+pub prefix_inverse : (c d : ℕ) (r : Radix) → prefix_of c d ≡ Some r
     → (c ≡ 48) × (((r ≡ radix.Hexadecimal) × ((d ≡ 120) ⊎ (d ≡ 88))) ⊎ (((r ≡ radix.Binary) × ((d ≡ 98) ⊎ (d ≡ 66))) ⊎ ((r ≡ radix.Octal) × (d ≡ 111))))
 prefix_inverse c d r h = at_zero (eqb c 48) refl h
   where
@@ -98,11 +98,11 @@ module _ (b : ℕ → ℕ) where
     eqb_same (b (i + 1)) y (and_left _ true (and_right (eqb (b i) x) (eqb (b (i + 1)) y && true) h)),
   )
 
-  record Prefixed (r : Radix) (i s : ℕ) : Type 0 where
-    says : prefix_of (b i) (b (i + 1)) ≡ Some r
-    start : s ≡ i + 2
-    first : b i ≡ 48
-    mark : is_mark (b (i + 1)) ≡ true
+  pub record Prefixed (r : Radix) (i s : ℕ) : Type 0 where
+    pub says : prefix_of (b i) (b (i + 1)) ≡ Some r
+    pub start : s ≡ i + 2
+    pub first : b i ≡ 48
+    pub mark : is_mark (b (i + 1)) ≡ true
 
   prefixed_by : (r : Radix) (x i s : ℕ) → prefix_of 48 x ≡ Some r → is_mark x ≡ true → (stands b (48 ∷ x ∷ []) i ≡ true) × (s ≡ i + 2) → Prefixed r i s
   prefixed_by r x i s e m h =
@@ -114,7 +114,7 @@ module _ (b : ℕ → ℕ) where
         mark = ap is_mark t.1 ∙ m;
       }
 
-  prefix_is : (r : Radix) (i s : ℕ) → IsOneOf b (prefixes r) i s → ((r ≡ radix.Decimal) × (s ≡ i)) ⊎ Prefixed r i s
+  pub prefix_is : (r : Radix) (i s : ℕ) → IsOneOf b (prefixes r) i s → ((r ≡ radix.Decimal) × (s ≡ i)) ⊎ Prefixed r i s
   prefix_is radix.Binary i s (inl h) = inr (prefixed_by radix.Binary 98 i s refl refl h)
   prefix_is radix.Binary i s (inr (inl h)) = inr (prefixed_by radix.Binary 66 i s refl refl h)
   prefix_is radix.Binary i s (inr (inr h)) = absurd h
@@ -139,7 +139,7 @@ module _ (b : ℕ → ℕ) where
   false_true : (r : Radix) (e : ℕ) → goes_on b r e ≡ false → goes_on b r e ≡ true → ⊥
   false_true r e h g = cc (h, g)
 
-  mark_stops : (k : ℕ) → is_mark (b k) ≡ true → goes_on b radix.Decimal k ≡ true → ⊥
+  pub mark_stops : (k : ℕ) → is_mark (b k) ≡ true → goes_on b radix.Decimal k ≡ true → ⊥
   mark_stops k h = stops radix.Decimal k (mark_no_digit (b k) h) (mark_no_space (b k) h)
 
   prefixed_not_decimal : (r : Radix) (i s : ℕ) → Prefixed r i s → r ≡ radix.Decimal → ⊥

@@ -7,7 +7,7 @@ use Rattle.qt_lex.specs.Bytes.{is_digit, stands, reserved_words, constants, time
 use Rattle.qt_lex.specs.Numbers.{base_of, number_of, IsWhole, IsPointed, IsExponent, IsDecimal}
 use Rattle.qt_lex.specs.Tokens.{IsToken}
 use Rattle.qt_lex.proofs.Tables.{and_left, and_right, or_left, or_cases, not_false, eqb_same, compare}
-use Rattle.qt_lex.proofs.Heads.{head, head_word, head_number, head_quote, head_is, plain_head, decimal_head, whole_head, other}
+use Rattle.qt_lex.proofs.Heads.{head, number_no_quote, quote_no_whole, head_word, head_number, head_quote, head_is, plain_head, decimal_head, whole_head, other}
 use Rattle.qt_lex.proofs.Numbers.{is_hexadecimal, digit_is_hexadecimal, whole_same, whole_decimal}
 
 abbrev pub sizes_are : (ℕ → ℕ → Bool) → List (List ℕ) → Bool
@@ -140,23 +140,29 @@ module _ (b : ℕ → ℕ) where
 
   integer_only : (i j : ℕ) (k : Kind) → IsToken b Integer i j → IsToken b k i j → Integer ≡ k
   integer_only i j Integer h g = refl
-  integer_only i j Wide (r, s, w, lt) (q, t, v, le) = absurd (narrow_no_wide r s q t i j w v lt le)
+  integer_only i j Wide (r, s, w, lt) (inr g) = absurd (quote_no_whole b r s i j g.0.quote w)
+  integer_only i j Wide (r, s, w, lt) (inl (q, t, v, le)) = absurd (narrow_no_wide r s q t i j w v lt le)
   integer_only i j Decimal (r, s, w, lt) g = absurd (let x : j < j = (whole_decimal b r s i j j w g).0 in omega (arith, x))
   integer_only i j Timing (r, s, w, lt) (m, p, u) = absurd (time_last m j u (whole_last r s i j w))
   integer_only i j Imaginary (r, s, w, lt) (m, p, u) = absurd (im_no_plain m j u (whole_last r s i j w))
   integer_only i j k (r, s, w, lt) g = absurd (other b k 1 i j refl (whole_there r s i j w) g)
 
   wide_only : (i j : ℕ) (k : Kind) → IsToken b Wide i j → IsToken b k i j → Wide ≡ k
-  wide_only i j Integer (q, t, v, le) (r, s, w, lt) = absurd (narrow_no_wide r s q t i j w v lt le)
+  wide_only i j Integer (inr h) (r, s, w, lt) = absurd (quote_no_whole b r s i j h.0.quote w)
+  wide_only i j Integer (inl (q, t, v, le)) (r, s, w, lt) = absurd (narrow_no_wide r s q t i j w v lt le)
   wide_only i j Wide h g = refl
-  wide_only i j Decimal (r, s, w, lt) g = absurd (let x : j < j = (whole_decimal b r s i j j w g).0 in omega (arith, x))
-  wide_only i j Timing (r, s, w, lt) (m, p, u) = absurd (time_last m j u (whole_last r s i j w))
-  wide_only i j Imaginary (r, s, w, lt) (m, p, u) = absurd (im_no_plain m j u (whole_last r s i j w))
-  wide_only i j k (r, s, w, lt) g = absurd (other b k 1 i j refl (whole_there r s i j w) g)
+  wide_only i j Text (inl (r, s, w, lt)) g = absurd (quote_no_whole b r s i j g.0.quote w)
+  wide_only i j Text (inr h) g = let x = h.1 in let y = g.1 in absurd (cc (x, y))
+  wide_only i j Decimal (inl (r, s, w, lt)) g = absurd (let x : j < j = (whole_decimal b r s i j j w g).0 in omega (arith, x))
+  wide_only i j Timing (inl (r, s, w, lt)) (m, p, u) = absurd (time_last m j u (whole_last r s i j w))
+  wide_only i j Imaginary (inl (r, s, w, lt)) (m, p, u) = absurd (im_no_plain m j u (whole_last r s i j w))
+  wide_only i j k (inl (r, s, w, lt)) g = absurd (other b k 1 i j refl (whole_there r s i j w) g)
+  wide_only i j k (inr h) g = absurd (other b k 2 i j refl (head_quote (b i) h.0.quote) g)
 
   decimal_only : (i j : ℕ) (k : Kind) → IsToken b Decimal i j → IsToken b k i j → Decimal ≡ k
   decimal_only i j Integer h (r, s, w, lt) = absurd (let x : j < j = (whole_decimal b r s i j j w h).0 in omega (arith, x))
-  decimal_only i j Wide h (r, s, w, lt) = absurd (let x : j < j = (whole_decimal b r s i j j w h).0 in omega (arith, x))
+  decimal_only i j Wide h (inr g) = absurd (number_no_quote (b i) (decimal_head b i j h) g.0.quote)
+  decimal_only i j Wide h (inl (r, s, w, lt)) = absurd (let x : j < j = (whole_decimal b r s i j j w h).0 in omega (arith, x))
   decimal_only i j Decimal h g = refl
   decimal_only i j Timing h (m, p, u) = absurd (time_last m j u (decimal_last i j h))
   decimal_only i j Imaginary h (m, p, u) = absurd (im_no_plain m j u (decimal_last i j h))
@@ -164,7 +170,8 @@ module _ (b : ℕ → ℕ) where
 
   timing_only : (i j : ℕ) (k : Kind) → IsToken b Timing i j → IsToken b k i j → Timing ≡ k
   timing_only i j Integer (m, p, u) (r, s, w, lt) = absurd (time_last m j u (whole_last r s i j w))
-  timing_only i j Wide (m, p, u) (r, s, w, lt) = absurd (time_last m j u (whole_last r s i j w))
+  timing_only i j Wide (m, p, u) (inr g) = absurd (number_no_quote (b i) (plain_head b i m p) g.0.quote)
+  timing_only i j Wide (m, p, u) (inl (r, s, w, lt)) = absurd (time_last m j u (whole_last r s i j w))
   timing_only i j Decimal (m, p, u) g = absurd (time_last m j u (decimal_last i j g))
   timing_only i j Timing h g = refl
   timing_only i j Imaginary (m, p, u) (n, q, v) = absurd (im_no_time n m j v u)
@@ -172,7 +179,8 @@ module _ (b : ℕ → ℕ) where
 
   imaginary_only : (i j : ℕ) (k : Kind) → IsToken b Imaginary i j → IsToken b k i j → Imaginary ≡ k
   imaginary_only i j Integer (m, p, u) (r, s, w, lt) = absurd (im_no_plain m j u (whole_last r s i j w))
-  imaginary_only i j Wide (m, p, u) (r, s, w, lt) = absurd (im_no_plain m j u (whole_last r s i j w))
+  imaginary_only i j Wide (m, p, u) (inr g) = absurd (number_no_quote (b i) (plain_head b i m p) g.0.quote)
+  imaginary_only i j Wide (m, p, u) (inl (r, s, w, lt)) = absurd (im_no_plain m j u (whole_last r s i j w))
   imaginary_only i j Decimal (m, p, u) g = absurd (im_no_plain m j u (decimal_last i j g))
   imaginary_only i j Timing (m, p, u) (n, q, v) = absurd (im_no_time m n j u v)
   imaginary_only i j Imaginary h g = refl
@@ -180,7 +188,9 @@ module _ (b : ℕ → ℕ) where
 
   text_only : (i j : ℕ) (k : Kind) → IsToken b Text i j → IsToken b k i j → Text ≡ k
   text_only i j Text h g = refl
-  text_only i j k h g = absurd (other b k 2 i j refl (head_quote (b i) h.quote) g)
+  text_only i j Wide h (inl (r, s, w, lt)) = absurd (quote_no_whole b r s i j h.0.quote w)
+  text_only i j Wide h (inr g) = let x = h.1 in let y = g.1 in absurd (cc (x, y))
+  text_only i j k h g = absurd (other b k 2 i j refl (head_quote (b i) h.0.quote) g)
 
   hardware_only : (i j : ℕ) (k : Kind) → IsToken b Hardware i j → IsToken b k i j → Hardware ≡ k
   hardware_only i j Hardware h g = refl

@@ -31,11 +31,12 @@ module _ (b : ℕ → ℕ) where
   ]
   token_last Reserved i j h e = table_last reserved_words i j refl h e
   token_last Integer i j (r, s, w, lt) e = no_nul is_plain_last (j - 1) refl (whole_last b r s i j w) e
-  token_last Wide i j (r, s, w, lt) e = no_nul is_plain_last (j - 1) refl (whole_last b r s i j w) e
+  token_last Wide i j (inl (r, s, w, lt)) e = no_nul is_plain_last (j - 1) refl (whole_last b r s i j w) e
+  token_last Wide i j (inr h) e = no_nul is_quote i refl h.0.quote (sym h.0.closed ∙ e)
   token_last Decimal i j h e = no_nul is_plain_last (j - 1) refl (decimal_last b i j h) e
   token_last Timing i j (m, p, u) e = table_last time_units m j refl u e
   token_last Imaginary i j (m, p, u) e = table_last imaginary_units m j refl u e
-  token_last Text i j h e = no_nul is_quote i refl h.quote (sym h.closed ∙ e)
+  token_last Text i j h e = no_nul is_quote i refl h.0.quote (sym h.0.closed ∙ e)
   token_last Hardware i j h e = run_last is_digit (i + 1) j refl h.some h.others e
   token_last Hash i j h e = run_last is_letter (i + 1) j refl h.some h.others e
   token_last Symbol i j h e = table_last symbols i j refl h e
@@ -43,13 +44,13 @@ module _ (b : ℕ → ℕ) where
   token_last Euler i j h e = table_last euler_signs i j refl h e
   token_last End i j h e = h
 
-  token_within : (k : Kind) (end i j : ℕ) → ((x : ℕ) → end ≤ x → b x ≡ 0) → i < end → IsToken b k i j → j ≤ end
+  pub token_within : (k : Kind) (end i j : ℕ) → ((x : ℕ) → end ≤ x → b x ≡ 0) → i < end → IsToken b k i j → j ≤ end
   token_within k end i j z lt h = elim (compare2 j end) [
     | inl le ↦ le
     | inr more ↦ absurd (token_last k i j h (z (j - 1) (omega (arith, more))))
   ]
 
-  gap_within : (end i j : ℕ) → ((x : ℕ) → end ≤ x → b x ≡ 0) → i < end → IsGap b end i j → j ≤ end
+  pub gap_within : (end i j : ℕ) → ((x : ℕ) → end ≤ x → b x ≡ 0) → i < end → IsGap b end i j → j ≤ end
   gap_within end i j z lt (inl h) = omega (arith, lt, h.1)
   gap_within end i j z lt (inr (inl h)) = h.1.within
   gap_within end i j z lt (inr (inr (h, (m, f, e)))) = elim (compare2 j end) [
@@ -86,15 +87,16 @@ module _ (b : ℕ → ℕ) where
   plain_some i j (inl (r, s, w)) = whole_some r s i j w
   plain_some i j (inr d) = decimal_some i j d
 
-  token_some : (k : Kind) (i j : ℕ) → IsToken b k i j → i < j
+  pub token_some : (k : Kind) (i j : ℕ) → IsToken b k i j → i < j
   token_some Name i j h = h.0.some
   token_some Reserved i j h = table_some reserved_words i j refl h
   token_some Integer i j (r, s, w, lt) = whole_some r s i j w
-  token_some Wide i j (r, s, w, lt) = whole_some r s i j w
+  token_some Wide i j (inl (r, s, w, lt)) = whole_some r s i j w
+  token_some Wide i j (inr h) = let x : i + 1 < j = h.0.some in omega (arith, x)
   token_some Decimal i j h = decimal_some i j h
   token_some Timing i j (m, p, u) = let x : i < m = plain_some i m p in let y : m < j = table_some time_units m j refl u in omega (arith, x, y)
   token_some Imaginary i j (m, p, u) = let x : i < m = plain_some i m p in let y : m < j = table_some imaginary_units m j refl u in omega (arith, x, y)
-  token_some Text i j h = let x : i + 1 < j = h.some in omega (arith, x)
+  token_some Text i j h = let x : i + 1 < j = h.0.some in omega (arith, x)
   token_some Hardware i j h = let x : i + 1 < j = h.some in omega (arith, x)
   token_some Hash i j h = let x : i + 1 < j = h.some in omega (arith, x)
   token_some Symbol i j h = table_some symbols i j refl h
@@ -123,7 +125,7 @@ module _ (b : ℕ → ℕ) where
   all_end file end i ts z le (token {rest = rest} k j lt s l h) =
       cons_ends end (token_of b file k i j) rest (not_end k i j l.token) (all_end file end j rest z (token_within k end i j z lt l.token) h)
 
-nothing_behind : (text : List ℕ) (x : ℕ) → length text ≤ x → byte text x ≡ 0
+pub nothing_behind : (text : List ℕ) (x : ℕ) → length text ≤ x → byte text x ≡ 0
 nothing_behind text x le = get_or_past text x 0 le
 
 pub tokens_within : (text : List ℕ) (file : ℕ) (tokens : List Token) → GivesTokens text file tokens → AreWithin (length text) tokens

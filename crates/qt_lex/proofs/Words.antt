@@ -3,9 +3,9 @@ use Rattle.std.proofs.Common.{◌≡◌, ℕ, ◌+◌, ◌-◌, ◌≤◌, ◌<�
 use Rattle.qt_lex.specs.declared.tokens.Kind.{Kind}
 use Rattle.qt_lex.specs.declared.tokens.Kind.TheVariants.{Name, Reserved, Integer, Wide, Decimal, Timing, Imaginary, Text, Hardware, Hash, Symbol, Constant, Euler, End}
 use Rattle.qt_lex.specs.Bytes.{is_digit, is_letter, is_name_start, is_name_byte, is_quote, reserved_words, constants, euler_signs, symbols, IsOneOf, longest_in, EachFrom}
-use Rattle.qt_lex.specs.Tokens.{IsText, IsToken, Longest, NoToken}
+use Rattle.qt_lex.specs.Tokens.{IsText, is_wide_text, IsToken, Longest, NoToken}
 use Rattle.qt_lex.proofs.Tables.{or_cases, or_no_left, eqb_same, compare, head_of_one, word_of_one, longest_stands, longest_bounds, run_ends}
-use Rattle.qt_lex.proofs.Heads.{may_begin_number, head, head_word, head_quote, whole_head, decimal_head, plain_head, other}
+use Rattle.qt_lex.proofs.Heads.{may_begin_number, quote_no_whole, head, head_word, head_quote, whole_head, decimal_head, plain_head, other}
 
 module _ (b : ℕ → ℕ) where
   word_bounds : (i e : ℕ) → i < e → is_name_start (b i) ≡ true → is_name_byte (b e) ≡ false → (k : Kind) (j : ℕ) → IsToken b k i j → j ≤ e
@@ -58,15 +58,22 @@ module _ (b : ℕ → ℕ) where
     | inr t ↦ elim t [ inl e ↦ e | inr lt ↦ absurd (text_bound i k j g h lt) ]
   ]
 
-  pub text_is : (i j : ℕ) → IsText b i j → Longest b Text i j
-  text_is i j t = record { token = t; longest = bound }
-    where
-      bound : (k : Kind) (j' : ℕ) → IsToken b k i j' → j' ≤ j
-      bound Text j' h = let e : j' ≡ j = text_one i j j' t h in omega (arith, e)
-      bound k j' h = absurd (other b k 2 i j' refl (head_quote (b i) t.quote) h)
+  text_bounds : (i j : ℕ) → IsText b i j → (k : Kind) (j' : ℕ) → IsToken b k i j' → j' ≤ j
+  text_bounds i j t Text j' h = let e : j' ≡ j = text_one i j j' t h.0 in omega (arith, e)
+  text_bounds i j t Wide j' (inl (r, s, w, le)) = absurd (quote_no_whole b r s i j' t.quote w)
+  text_bounds i j t Wide j' (inr h) = let e : j' ≡ j = text_one i j j' t h.0 in omega (arith, e)
+  text_bounds i j t k j' h = absurd (other b k 2 i j' refl (head_quote (b i) t.quote) h)
+
+  pub text_is : (i j : ℕ) → IsText b i j → is_wide_text b i j ≡ false → Longest b Text i j
+  text_is i j t short = record { token = (t, short); longest = text_bounds i j t }
+
+  pub wide_text_is : (i j : ℕ) → IsText b i j → is_wide_text b i j ≡ true → Longest b Wide i j
+  wide_text_is i j t long = record { token = inr (t, long); longest = text_bounds i j t }
 
   pub no_text : (i : ℕ) → is_quote (b i) ≡ true → ((j : ℕ) → IsText b i j → ⊥) → NoToken b i
-  no_text i q none Text j h = none j h
+  no_text i q none Text j h = none j h.0
+  no_text i q none Wide j (inl (r, s, w, le)) = quote_no_whole b r s i j q w
+  no_text i q none Wide j (inr h) = none j h.0
   no_text i q none k j h = other b k 2 i j refl (head_quote (b i) q) h
 
   pub hardware_is : (i e : ℕ) → b i ≡ 36 → i + 1 < e → EachFrom b is_digit (i + 1) e → is_digit (b e) ≡ false → Longest b Hardware i e
@@ -141,11 +148,12 @@ module _ (b : ℕ → ℕ) where
   no_sign i w n q m sy co eu Name j h = let v : is_name_start (b i) ≡ true = h.0.first in cc (w, v)
   no_sign i w n q m sy co eu Reserved j h = let v : is_name_start (b i) ≡ true = (head_of_one b is_name_start reserved_words i j refl h).0 in cc (w, v)
   no_sign i w n q m sy co eu Integer j (r, s, x, y) = let v : is_digit (b i) ≡ true = whole_head b r s i j x in let u : is_digit (b i) ≡ false = or_no_left _ (eqb (b i) 46) n in cc (u, v)
-  no_sign i w n q m sy co eu Wide j (r, s, x, y) = let v : is_digit (b i) ≡ true = whole_head b r s i j x in let u : is_digit (b i) ≡ false = or_no_left _ (eqb (b i) 46) n in cc (u, v)
+  no_sign i w n q m sy co eu Wide j (inr h) = let v : is_quote (b i) ≡ true = h.0.quote in cc (q, v)
+  no_sign i w n q m sy co eu Wide j (inl (r, s, x, y)) = let v : is_digit (b i) ≡ true = whole_head b r s i j x in let u : is_digit (b i) ≡ false = or_no_left _ (eqb (b i) 46) n in cc (u, v)
   no_sign i w n q m sy co eu Decimal j h = let v : may_begin_number (b i) ≡ true = decimal_head b i j h in cc (n, v)
   no_sign i w n q m sy co eu Timing j (x, p, u) = let v : may_begin_number (b i) ≡ true = plain_head b i x p in cc (n, v)
   no_sign i w n q m sy co eu Imaginary j (x, p, u) = let v : may_begin_number (b i) ≡ true = plain_head b i x p in cc (n, v)
-  no_sign i w n q m sy co eu Text j h = let v : is_quote (b i) ≡ true = h.quote in cc (q, v)
+  no_sign i w n q m sy co eu Text j h = let v : is_quote (b i) ≡ true = h.0.quote in cc (q, v)
   no_sign i w n q m sy co eu Hardware j h = let v : (eqb (b i) 36 || eqb (b i) 35) ≡ true = ap (λ t. eqb t 36 || eqb t 35) h.first in cc (m, v)
   no_sign i w n q m sy co eu Hash j h = let v : (eqb (b i) 36 || eqb (b i) 35) ≡ true = ap (λ t. eqb t 36 || eqb t 35) h.first in cc (m, v)
   no_sign i w n q m sy co eu Symbol j h = empty_table symbols i j sy (head_of_one b (λ c. true) symbols i j refl h).1 h

@@ -1,4 +1,5 @@
 pub mod Bytes
 pub mod Numbers
+pub mod Bits
 pub mod Tokens
 pub mod Answers

@@ -7,6 +7,7 @@ use Rattle.qt_lex.specs.declared.tokens.Kind.TheVariants.{Name, Reserved, Intege
 use Rattle.qt_lex.specs.declared.tokens.Token.{Token}
 use Rattle.qt_lex.specs.Bytes.{byte, is_digit, is_letter, is_name_start, is_name_byte, is_blank, is_quote, reserved_words, constants, euler_signs, symbols, stands, IsOneOf, EachFrom}
 use Rattle.qt_lex.specs.Numbers.{IsInteger, IsWide, IsDecimal, IsTiming, IsImaginary}
+use Rattle.qt_lex.specs.Bits.{is_long_bit_string}
 
 module _ (b : ℕ → ℕ) where
   -- a letter or `_`, then letters, digits and `_`
@@ -22,6 +23,10 @@ module _ (b : ℕ → ℕ) where
     pub inside : (k : ℕ) → i < k → k + 1 < j → (eqb (b k) (b i) || eqb (b k) 10) ≡ false
     pub closed : b (j - 1) ≡ b i
 
+  -- between the quotes of this text stands a bit string of more than 64 digits
+  abbrev pub is_wide_text : ℕ → ℕ → Bool
+  is_wide_text i j = is_long_bit_string b (i + 1) (j - 1 - (i + 1))
+
   -- a sign, and one or more bytes of a kind behind it
   pub record IsMarked (sign : ℕ) (p : ℕ → Bool) (i j : ℕ) : Type 0 where
     pub some : i + 1 < j
@@ -33,11 +38,11 @@ module _ (b : ℕ → ℕ) where
   IsToken Name i j = IsWord i j × (IsOneOf b reserved_words i j → ⊥) × (IsOneOf b constants i j → ⊥)
   IsToken Reserved i j = IsOneOf b reserved_words i j
   IsToken Integer i j = IsInteger b i j
-  IsToken Wide i j = IsWide b i j
+  IsToken Wide i j = IsWide b i j ⊎ (IsText i j × (is_wide_text i j ≡ true))
   IsToken Decimal i j = IsDecimal b i j
   IsToken Timing i j = IsTiming b i j
   IsToken Imaginary i j = IsImaginary b i j
-  IsToken Text i j = IsText i j
+  IsToken Text i j = IsText i j × (is_wide_text i j ≡ false)
   IsToken Hardware i j = IsMarked 36 is_digit i j
   IsToken Hash i j = IsMarked 35 is_letter i j
   IsToken Symbol i j = IsOneOf b symbols i j

@@ -11,6 +11,7 @@ ghost use Rattle.qt_lex.specs.declared.tokens.Kind.{Kind};
 ghost use Rattle.qt_lex.specs.declared.tokens.Token.{Token};
 ghost use Rattle.qt_lex.specs.declared.tokens.LexRefusal.TheVariants as refusal;
 
+use crate::bits::is_long_bit_string;
 use crate::number::number_at;
 use crate::scan::{
     CONSTANTS, EULER_SIGNS, RESERVED_WORDS, SYMBOLS, byte_at, digits_end, is_blank, is_digit,
@@ -44,6 +45,7 @@ fn text_end(text: &[u8], at: usize) -> Option<usize>
     requires within { at < length text.now }
     ensures some { IfSome result (λ end. spec.IsText (byte text.now) at end) }
     ensures inside { IfSome result (λ end. end ≤ length text.now) }
+    ensures ahead { IfSome result (λ end. at + 1 < end) }
     ensures none { IfNone result ((k : ℕ) → spec.IsText (byte text.now) at k → ⊥) }
 {
     let quote = byte_at(text, at);
@@ -61,7 +63,7 @@ fn text_end(text: &[u8], at: usize) -> Option<usize>
     None
 }
 
-/// The longest token at a place where a quote stands.
+/// The longest token at a place where a quote stands: a text, or a bit string that is too wide.
 fn quoted_at(text: &[u8], at: usize) -> Option<(Kind, usize)>
     requires quote { bytes.is_quote (byte text.now at) ≡ true }
     requires within { at < length text.now }
@@ -70,9 +72,13 @@ fn quoted_at(text: &[u8], at: usize) -> Option<(Kind, usize)>
     ensures inside { IfSome result (λ found. found.1 ≤ length text.now) }
     ensures none { IfNone result (NoToken (byte text.now) at) }
 {
-    match text_end(text, at) {
-        Some(end) => Some((Kind::Text, end)),
-        None => None,
+    let Some(end) = text_end(text, at) else {
+        return None;
+    };
+    if is_long_bit_string(text, at + 1, end - 1) {
+        Some((Kind::Wide, end))
+    } else {
+        Some((Kind::Text, end))
     }
 }
 

@@ -7,6 +7,7 @@
 //! text gives one list of tokens, or has one such place, and never both. The parsers read what `lex` gives.
 #![tactic(auto)]
 
+pub mod bits;
 pub mod lexer;
 mod number;
 mod scan;

@@ -40,7 +40,7 @@ fn base_of(radix: Radix) -> u128
     }
 }
 
-fn is_digit_of(radix: Radix, byte: u8) -> bool
+pub fn is_digit_of(radix: Radix, byte: u8) -> bool
     ensures { result ≡ spec.is_digit_of radix byte }
 {
     match radix {
@@ -97,7 +97,7 @@ fn is_wide(text: &[u8], whole: Whole) -> bool
     false
 }
 
-fn goes_on(text: &[u8], at: usize, radix: Radix) -> bool
+pub fn goes_on(text: &[u8], at: usize, radix: Radix) -> bool
     requires { at ≤ length text.now }
     ensures value { result ≡ spec.goes_on (byte text.now) radix at }
     ensures within { result ≡ true → at < length text.now }

@@ -3,7 +3,8 @@ ghost use Rattle.std.specs.Prelude.{◌≡◌};
 use qt_tree::place::Place;
 use std::alloc::{AllocError, AllocFailed};
 
-/// What a token is. A `Constant` is `pi`, `tau`, `π` or `τ`; a `Wide` is a whole number above 2^64 - 1; a `Euler` is `ℇ`.
+/// What a token is. A `Constant` is `pi`, `tau`, `π` or `τ`; a `Wide` is a whole number above 2^64 - 1, or a text that holds
+/// more than 64 binary digits; a `Euler` is `ℇ`.
 #[derive(Clone, Copy, Debug, PartialEq, Eq)]
 pub enum Kind {
     Name,

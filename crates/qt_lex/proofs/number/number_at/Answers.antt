@@ -29,7 +29,7 @@ returns-then-is_wide-clause-some c =
     Wide c.with_unit-then-is_wide.result.0 c.with_unit-then-is_wide.result.1
     c.requires.number c.in_default.ensures.none c.in-Some-whole_at.ensures.whole c.in-Some-whole_at.ensures.stop c.in-Some-whole_at.ensures.preferred
     (no_cut c.if-is_cut_by_unit.ensures.1)
-    (c.in-Some-whole_at.whole.radix, c.in-Some-whole_at.whole.start, c.in-Some-whole_at.ensures.whole, c.if-is_wide.ensures.0 (search rules))
+    (inl (c.in-Some-whole_at.whole.radix, c.in-Some-whole_at.whole.start, c.in-Some-whole_at.ensures.whole, c.if-is_wide.ensures.0 (search rules)))
     c.with_unit-then-is_wide.ensures.unit c.with_unit-then-is_wide.ensures.ahead c.with_unit-then-is_wide.ensures.times c.with_unit-then-is_wide.ensures.imaginaries
 
 below : (m n : ℕ) → (m ≤ n → IsTrue false) → n < m

@@ -1,0 +1,4 @@
+pub mod Literals
+pub mod Words
+pub mod Terminals
+pub mod Found
