@@ -1,0 +1,88 @@
+-- What reading promises: which outcome is right. A list of tokens 'opens' a form where it is a viable prefix of it, in the
+-- field's words: Aho, Lam, Sethi and Ullman, "Compilers", section 4.1, on the errors of parsers.
+use Rattle.std.specs.Prelude.{◌≡◌, ℕ, ◌+◌, ◌≤◌, List, Option, None, Result, Ok, Err}
+use Rattle.qt_grammar.specs.declared.refusal.Refusal.{Refusal}
+use Rattle.qt_grammar.specs.declared.refusal.Refusal.TheVariants.{Syntax, Nest, OutOfMemory}
+use Rattle.qt_words.specs.declared.word.Word.TheVariants as w
+use Rattle.qt_words.specs.Terminals.{Terminal, stream, with_word}
+use Rattle.qt_grammar.specs.Sorts.{Sort, Value, program}
+use Rattle.qt_grammar.specs.Form.{Form, ReadsBy, OpensBy}
+use Rattle.qt_grammar.specs.Outcome.{Outcome}
+use Rattle.qt_grammar.specs.Language.{whole}
+use Rattle.qt_grammar.specs.Reading.{Limits, ReadsTo, OpensTo}
+
+-- a form, read from a place on; `outer` is the number of operators before the outermost expression round that place
+module _ (ts : ℕ → Terminal) (s : Sort) (f : Form s) (outer : Option ℕ) (i : ℕ) where
+  -- the tokens up to place j spell a tree, within limits
+  abbrev pub Spells : Limits → Value s → ℕ → Type 0
+  Spells l v j = ReadsBy ts l.operators (ReadsTo ts l.operators l.levels) f outer i v j
+
+  -- the tokens up to place j open the form, within limits
+  abbrev pub Opens : Limits → ℕ → Type 0
+  Opens l j = OpensBy ts l.operators (ReadsTo ts l.operators l.levels) (OpensTo ts l.operators l.levels) f outer i j
+
+  -- the same, whatever the limits
+  abbrev pub SpellsAtAll : Value s → ℕ → Type 0
+  SpellsAtAll v j = (l : Limits) × Spells l v j
+
+  abbrev pub OpensAtAll : ℕ → Type 0
+  OpensAtAll j = (l : Limits) × Opens l j
+
+  -- the longest list of tokens that opens the form ends before place j; the limits play no part
+  pub record Longest (j : ℕ) : Type 0 where
+    pub opens : OpensAtAll j
+    pub longest : (k : ℕ) → OpensAtAll k → k ≤ j
+
+  -- that list is the form, with this tree and no other, and within the limits: none of its tokens is too deep
+  pub record Tree (l : Limits) (v : Value s) (j : ℕ) : Type 0 where
+    pub spells : Spells l v j
+    pub longest : Longest j
+    pub only : (w : Value s) → SpellsAtAll w j → w ≡ v
+
+  -- that list isn't the form: the token behind it is the stopper
+  pub record Stopper (n : ℕ) : Type 0 where
+    pub longest : Longest n
+    pub none : (v : Value s) → SpellsAtAll v n → ⊥
+
+  -- the first token that is too deep, or an operator too many: the tokens before it open the form within the limits, but with
+  -- this one only within larger limits
+  pub record FirstTooDeep (l : Limits) (n : ℕ) : Type 0 where
+    pub before : Opens l n
+    pub limit : (k : ℕ) → Opens l k → k ≤ n
+    pub larger : OpensAtAll (n + 1)
+
+  -- the outcome is right: a tree; or the stopper, where no token before it is too deep; or the first token too deep, which
+  -- stands before the stopper, if there is one, since with it the tokens still open the form
+  abbrev pub Answers : Limits → Outcome (Value s) → Type 0
+  Answers l (Ok z) = Tree l z.0 z.1
+  Answers l (Err (Syntax n)) = Opens l n × Stopper n
+  Answers l (Err (Nest n)) = FirstTooDeep l n
+  Answers l (Err OutOfMemory) = Unit {0}
+
+-- ---- a program, which ends with the end of the text
+
+module _ (ts : ℕ → Terminal) where
+  abbrev pub SpellsProgram : Limits → Value program → Type 0
+  SpellsProgram l p = (j : ℕ) × Spells ts program whole None 0 l p j
+
+  -- the tokens spell this program within the limits, and no other whatever the limits
+  pub record OnlyProgram (l : Limits) (p : Value program) : Type 0 where
+    pub spells : SpellsProgram l p
+    pub only : (m : Limits) (q : Value program) → SpellsProgram m q → q ≡ p
+
+  -- the tokens spell no program whatever the limits, and this is the stopper; no token before it is too deep
+  pub record NoProgram (l : Limits) (n : ℕ) : Type 0 where
+    pub none : (m : Limits) (p : Value program) → SpellsProgram m p → ⊥
+    pub longest : Longest ts program whole None 0 n
+    pub before : Opens ts program whole None 0 l n
+
+  abbrev pub Parses : Limits → Result (Value program) Refusal → Type 0
+  Parses l (Ok p) = OnlyProgram l p
+  Parses l (Err (Syntax n)) = NoProgram l n
+  Parses l (Err (Nest n)) = FirstTooDeep ts program whole None 0 l n
+  Parses l (Err OutOfMemory) = Unit {0}
+
+-- A statement, or a gate call in a gate's body, could begin at the token at place n of a program: the word `barrier` in its
+-- place opens. It begins both, and nothing else.
+abbrev pub CouldBegin : List Terminal → ℕ → Type 0
+CouldBegin all n = OpensAtAll (stream (with_word all n w.Barrier)) program whole None 0 (n + 1)
