@@ -1,0 +1,194 @@
+//! Expressions and the forms that hold them, from the left.
+
+ghost use Rattle.std.specs.Prelude.{◌≡◌, ◌<◌, ◌≤◌, length};
+ghost use Rattle.qt_grammar.specs.Outcome.{Says};
+ghost use Rattle.qt_expr.specs.Parser.{read_expression, read_expressions, read_in_parentheses, read_size, read_arguments, read_scalar, read_index, read_indexes, read_all_indexes, read_set, read_range, read_operation, read_more_operands};
+
+use crate::nesting::Nesting;
+use crate::operator::{STRENGTHS, binary, binary_operator, operator};
+use crate::reader::Reader;
+use qt_grammar::refusal::Refusal;
+use qt_tree::expression::{Expr, Index, Range, Scalar};
+use qt_words::stream::TokenStream;
+use sqlite_items::Items;
+use std::alloc::Global;
+
+/// Operands with operators of this strength or a greater one between.
+#[tactic(auto, using(crate::proofs::Steps::operation_is, crate::proofs::Steps::strongest_is))]
+#[cycle(operation)]
+fn operation(
+    alloc: Global,
+    tokens: &TokenStream<'_>,
+    nesting: Nesting,
+    strength: usize,
+    at: usize,
+) -> Result<(Expr, usize), Refusal>
+    requires { strength ≤ 10 }
+    ensures { Says (read_operation tokens.now nesting.levels nesting.outer strength at) result }
+{
+    if strength == STRENGTHS {
+        return Reader { alloc, operation }.factor(tokens, nesting, at);
+    }
+    let (left, at) = operation(alloc, tokens, nesting, strength + 1, at)?;
+    more_operands(alloc, tokens, nesting, strength, at, left)
+}
+
+/// What stands behind the first operand, with operators of this strength between.
+#[tactic(auto, using(crate::proofs::Steps::more_end, crate::proofs::Steps::more_stop, crate::proofs::Steps::more_go_on, crate::proofs::Steps::more_refuse))]
+#[cycle(operation)]
+fn more_operands(
+    alloc: Global,
+    tokens: &TokenStream<'_>,
+    nesting: Nesting,
+    strength: usize,
+    at: usize,
+    left: Expr,
+) -> Result<(Expr, usize), Refusal>
+    requires { strength < 10 }
+    ensures { Says (read_more_operands tokens.now nesting.levels nesting.outer strength (length tokens.now) left at) result }
+{
+    let mut left = left;
+    let mut at = at;
+    'turn: for turn in 0..tokens.len() {
+        let Some(found) = binary_operator(strength, tokens.word(at)) else {
+            return Ok((left, at));
+        };
+        let behind = operator(tokens, nesting, at)?;
+        let (right, behind) = operation(alloc, tokens, nesting, strength + 1, behind)?;
+        left = binary(alloc, found, left, right)?;
+        at = behind;
+    }
+    Ok((left, at))
+}
+
+/// `expr`: an expression. Its operators are counted from here on, unless it stands in another.
+pub fn expression(
+    alloc: Global,
+    tokens: &TokenStream<'_>,
+    nesting: Nesting,
+    at: usize,
+) -> Result<(Expr, usize), Refusal>
+    ensures { Says (read_expression tokens.now nesting.levels nesting.outer at) result }
+{
+    Reader { alloc, operation }.expression(tokens, nesting, at)
+}
+
+/// `exprs = expr { "," expr }`
+pub fn expressions(
+    alloc: Global,
+    tokens: &TokenStream<'_>,
+    nesting: Nesting,
+    at: usize,
+) -> Result<(Items<Expr>, usize), Refusal>
+    ensures { Says (read_expressions tokens.now nesting.levels nesting.outer at) result }
+{
+    Reader { alloc, operation }.expressions(tokens, nesting, at)
+}
+
+/// `"(" expr ")"`
+pub fn in_parentheses(
+    alloc: Global,
+    tokens: &TokenStream<'_>,
+    nesting: Nesting,
+    at: usize,
+) -> Result<(Expr, usize), Refusal>
+    ensures { Says (read_in_parentheses tokens.now nesting.levels nesting.outer at) result }
+{
+    Reader { alloc, operation }.in_parentheses(tokens, nesting, at)
+}
+
+/// `"[" expr "]"`, as the size of a type or of a register.
+pub fn size(
+    alloc: Global,
+    tokens: &TokenStream<'_>,
+    nesting: Nesting,
+    at: usize,
+) -> Result<(Expr, usize), Refusal>
+    ensures { Says (read_size tokens.now nesting.levels nesting.outer at) result }
+{
+    Reader { alloc, operation }.size(tokens, nesting, at)
+}
+
+/// `"(" [ exprs ] ")"`
+pub fn arguments(
+    alloc: Global,
+    tokens: &TokenStream<'_>,
+    nesting: Nesting,
+    at: usize,
+) -> Result<(Items<Expr>, usize), Refusal>
+    ensures { Says (read_arguments tokens.now nesting.levels nesting.outer at) result }
+{
+    Reader { alloc, operation }.arguments(tokens, nesting, at)
+}
+
+/// `scalar = "bool" | ( "bit" | "int" | "uint" | "angle" ) [ "[" expr "]" ]`
+pub fn scalar(
+    alloc: Global,
+    tokens: &TokenStream<'_>,
+    nesting: Nesting,
+    at: usize,
+) -> Result<(Scalar, usize), Refusal>
+    ensures { Says (read_scalar tokens.now nesting.levels nesting.outer at) result }
+{
+    Reader { alloc, operation }.scalar(tokens, nesting, at)
+}
+
+/// What stands in the brackets of one index, `expr | range | "{" exprs "}"`, one level deeper than the brackets.
+pub fn index(
+    alloc: Global,
+    tokens: &TokenStream<'_>,
+    nesting: Nesting,
+    at: usize,
+) -> Result<(Index, usize), Refusal>
+    ensures { Says (read_index tokens.now nesting.levels nesting.outer at) result }
+{
+    Reader { alloc, operation }.index(tokens, nesting, at)
+}
+
+/// `"[" index { "," index } "]"`
+pub fn indexes(
+    alloc: Global,
+    tokens: &TokenStream<'_>,
+    nesting: Nesting,
+    at: usize,
+) -> Result<(Items<Index>, usize), Refusal>
+    ensures { Says (read_indexes tokens.now nesting.levels nesting.outer at) result }
+{
+    Reader { alloc, operation }.indexes(tokens, nesting, at)
+}
+
+/// Brackets with indexes, one after the other, at least one.
+pub fn all_indexes(
+    alloc: Global,
+    tokens: &TokenStream<'_>,
+    nesting: Nesting,
+    at: usize,
+) -> Result<(Items<Items<Index>>, usize), Refusal>
+    ensures { Says (read_all_indexes tokens.now nesting.levels nesting.outer at) result }
+{
+    Reader { alloc, operation }.all_indexes(tokens, nesting, at)
+}
+
+/// `"{" exprs "}"`
+pub fn set(
+    alloc: Global,
+    tokens: &TokenStream<'_>,
+    nesting: Nesting,
+    at: usize,
+) -> Result<(Items<Expr>, usize), Refusal>
+    ensures { Says (read_set tokens.now nesting.levels nesting.outer at) result }
+{
+    Reader { alloc, operation }.set(tokens, nesting, at)
+}
+
+/// What stands in the brackets of a range, one level deeper than the brackets.
+pub fn range(
+    alloc: Global,
+    tokens: &TokenStream<'_>,
+    nesting: Nesting,
+    at: usize,
+) -> Result<(Range, usize), Refusal>
+    ensures { Says (read_range tokens.now nesting.levels nesting.outer at) result }
+{
+    Reader { alloc, operation }.range(tokens, nesting, at)
+}

@@ -1,0 +1,260 @@
+//! Indexes and ranges.
+
+ghost use Rattle.std.specs.Prelude.{◌≡◌, ◌+◌, ◌≤◌, length, None, Some};
+ghost use Rattle.qt_words.specs.declared.word.Word.TheVariants as w;
+ghost use Rattle.qt_grammar.specs.Form as form;
+ghost use Rattle.qt_words.specs.Words as words;
+ghost use Rattle.qt_grammar.specs.Lookahead as lookahead;
+ghost use Rattle.qt_grammar.specs.Sorts as sorts;
+ghost use Rattle.qt_grammar.specs.Language as language;
+ghost use Rattle.qt_grammar.specs.Outcome.{Says};
+ghost use Rattle.qt_expr.specs.Nested.{Nests};
+ghost use Rattle.qt_expr.specs.Parser.{read_all_indexes, read_behind_start, read_index, read_index_form, read_index_list, read_indexes, read_place_or_range, read_range, read_range_form, rest_separated, rest_some};
+
+use crate::nesting::{Nesting, too_deep};
+use crate::reader::Reader;
+use crate::sign::{begins_expression, behind, next_is, sign};
+use qt_grammar::refusal::Refusal;
+use qt_tree::expression::{Expr, Index, Range};
+use qt_words::stream::TokenStream;
+use qt_words::word::Word;
+use sqlite_items::Items;
+use std::alloc::Global;
+
+/// Whether what stands in the brackets of an index begins with that word.
+fn begins_index(word: Word) -> bool
+    ensures { result ≡ form.member (words.code word) (lookahead.first_of sorts.an_index) }
+{
+    matches!(word, Word::LeftBrace | Word::Colon) || begins_expression(word)
+}
+
+impl<
+    F: Fn(Global, &TokenStream<'_>, Nesting, usize, usize) -> Result<(Expr, usize), Refusal>,
+> Reader<F> {
+    /// A range from its colon on, behind its start.
+    #[tactic(auto, unfolding(crate::specs::Parser::read_behind_start, crate::specs::Parser::read_sign, crate::specs::Parser::read_expression, crate::specs::Parser::read_expression_or_none))]
+    pub fn behind_start(
+        &self,
+        tokens: &TokenStream<'_>,
+        nesting: Nesting,
+        start: Option<Expr>,
+        at: usize,
+    ) -> Result<(Range, usize), Refusal>
+        requires { Nests (nesting.levels + 1) (F.pre self.now.operation) (F.post self.now.operation) }
+        ensures { Says (read_behind_start tokens.now nesting.levels nesting.outer start at) result }
+    {
+        let at = sign(tokens, at, Word::Colon)?;
+        if !begins_expression(tokens.word(at)) {
+            let (step, end) = (None, None);
+            return Ok((Range { start, step, end }, at));
+        }
+        let (second, at) = self.expression(tokens, nesting, at)?;
+        if !next_is(tokens, at, Word::Colon) {
+            let (step, end) = (None, Some(second));
+            return Ok((Range { start, step, end }, at));
+        }
+        let at = sign(tokens, at, Word::Colon)?;
+        let (end, at) = self.expression_or_none(tokens, nesting, at)?;
+        let step = Some(second);
+        Ok((Range { start, step, end }, at))
+    }
+
+    /// `[ expr ] ":" [ expr ] | [ expr ] ":" expr ":" [ expr ]`
+    #[tactic(auto, unfolding(crate::specs::Parser::read_range_form, crate::specs::Parser::read_behind_start, crate::specs::Parser::read_expression))]
+    pub fn range_form(
+        &self,
+        tokens: &TokenStream<'_>,
+        nesting: Nesting,
+        at: usize,
+    ) -> Result<(Range, usize), Refusal>
+        requires { Nests (nesting.levels + 1) (F.pre self.now.operation) (F.post self.now.operation) }
+        ensures { Says (read_range_form tokens.now nesting.levels nesting.outer at) result }
+    {
+        if next_is(tokens, at, Word::Colon) {
+            return self.behind_start(tokens, nesting, None, at);
+        }
+        let (start, at) = self.expression(tokens, nesting, at)?;
+        self.behind_start(tokens, nesting, Some(start), at)
+    }
+
+    /// What stands in the brackets of a range, one level deeper.
+    #[tactic(auto, unfolding(crate::specs::Parser::read_range, crate::specs::Parser::read_range_form))]
+    pub fn range(
+        &self,
+        tokens: &TokenStream<'_>,
+        nesting: Nesting,
+        at: usize,
+    ) -> Result<(Range, usize), Refusal>
+        requires { Nests nesting.levels (F.pre self.now.operation) (F.post self.now.operation) }
+        ensures { Says (read_range tokens.now nesting.levels nesting.outer at) result }
+    {
+        if nesting.levels == 0 {
+            return Err(too_deep(
+                at,
+                next_is(tokens, at, Word::Colon) || begins_expression(tokens.word(at)),
+            ));
+        }
+        self.range_form(tokens, nesting.below(), at)
+    }
+
+    /// An expression, or a range with a start.
+    #[tactic(auto, unfolding(crate::specs::Parser::read_place_or_range, crate::specs::Parser::read_behind_start, crate::specs::Parser::read_expression))]
+    pub fn place_or_range(
+        &self,
+        tokens: &TokenStream<'_>,
+        nesting: Nesting,
+        at: usize,
+    ) -> Result<(Index, usize), Refusal>
+        requires { Nests (nesting.levels + 1) (F.pre self.now.operation) (F.post self.now.operation) }
+        ensures { Says (read_place_or_range tokens.now nesting.levels nesting.outer at) result }
+    {
+        let (place, at) = self.expression(tokens, nesting, at)?;
+        if !next_is(tokens, at, Word::Colon) {
+            return Ok((Index::At { place }, at));
+        }
+        let (range, at) = self.behind_start(tokens, nesting, Some(place), at)?;
+        Ok((Index::Range { range }, at))
+    }
+
+    /// `expr | range | "{" exprs "}"`
+    #[tactic(auto, unfolding(crate::specs::Parser::read_index_form, crate::specs::Parser::read_behind_start, crate::specs::Parser::read_set, crate::specs::Parser::read_place_or_range))]
+    pub fn index_form(
+        &self,
+        tokens: &TokenStream<'_>,
+        nesting: Nesting,
+        at: usize,
+    ) -> Result<(Index, usize), Refusal>
+        requires { Nests (nesting.levels + 1) (F.pre self.now.operation) (F.post self.now.operation) }
+        ensures { Says (read_index_form tokens.now nesting.levels nesting.outer at) result }
+    {
+        match tokens.word(at) {
+            Word::LeftBrace => {
+                let (places, at) = self.set(tokens, nesting, at)?;
+                Ok((Index::Set { places }, at))
+            }
+            Word::Colon => {
+                let (range, at) = self.behind_start(tokens, nesting, None, at)?;
+                Ok((Index::Range { range }, at))
+            }
+            _ => self.place_or_range(tokens, nesting, at),
+        }
+    }
+
+    /// What stands in the brackets of an index, one level deeper.
+    #[tactic(auto, unfolding(crate::specs::Parser::read_index, crate::specs::Parser::read_index_form))]
+    pub fn index(
+        &self,
+        tokens: &TokenStream<'_>,
+        nesting: Nesting,
+        at: usize,
+    ) -> Result<(Index, usize), Refusal>
+        requires { Nests nesting.levels (F.pre self.now.operation) (F.post self.now.operation) }
+        ensures { Says (read_index tokens.now nesting.levels nesting.outer at) result }
+    {
+        if nesting.levels == 0 {
+            return Err(too_deep(at, begins_index(tokens.word(at))));
+        }
+        self.index_form(tokens, nesting.below(), at)
+    }
+
+    /// Indexes with commas between, at least one.
+    #[tactic(auto, using(crate::proofs::Lists::index_list_is))]
+    pub fn index_list(
+        &self,
+        tokens: &TokenStream<'_>,
+        nesting: Nesting,
+        at: usize,
+    ) -> Result<(Items<Index>, usize), Refusal>
+        requires { Nests nesting.levels (F.pre self.now.operation) (F.post self.now.operation) }
+        ensures { Says (read_index_list tokens.now nesting.levels nesting.outer at) result }
+    {
+        let (first, at) = self.index(tokens, nesting, at)?;
+        let mut all = Items::new(self.alloc);
+        all.push(first)?;
+        self.more_of_index_list(tokens, nesting, at, all)
+    }
+
+    /// What stands behind the first of them.
+    #[tactic(auto, using(crate::proofs::Loops::separated_ends, crate::proofs::Loops::separated_stops, crate::proofs::Lists::index_list_goes_on))]
+    fn more_of_index_list(
+        &self,
+        tokens: &TokenStream<'_>,
+        nesting: Nesting,
+        at: usize,
+        all: Items<Index>,
+    ) -> Result<(Items<Index>, usize), Refusal>
+        requires { Nests nesting.levels (F.pre self.now.operation) (F.post self.now.operation) }
+        ensures { Says (rest_separated tokens.now w.Comma (form.named sorts.an_index) nesting.levels nesting.outer (length tokens.now) all at) result }
+    {
+        let mut all = all;
+        let mut at = at;
+        'turn: for turn in 0..tokens.len() {
+            if !next_is(tokens, at, Word::Comma) {
+                return Ok((all, at));
+            }
+            let (next, behind) = self.index(tokens, nesting, behind(tokens, at))?;
+            all.push(next)?;
+            at = behind;
+        }
+        Ok((all, at))
+    }
+
+    /// `"[" index { "," index } "]"`
+    #[tactic(auto, unfolding(crate::specs::Parser::read_indexes, crate::specs::Parser::read_index_list, crate::specs::Parser::read_sign))]
+    pub fn indexes(
+        &self,
+        tokens: &TokenStream<'_>,
+        nesting: Nesting,
+        at: usize,
+    ) -> Result<(Items<Index>, usize), Refusal>
+        requires { Nests nesting.levels (F.pre self.now.operation) (F.post self.now.operation) }
+        ensures { Says (read_indexes tokens.now nesting.levels nesting.outer at) result }
+    {
+        let at = sign(tokens, at, Word::LeftBracket)?;
+        let (inner, at) = self.index_list(tokens, nesting, at)?;
+        let at = sign(tokens, at, Word::RightBracket)?;
+        Ok((inner, at))
+    }
+
+    /// Brackets with indexes, one after the other, at least one.
+    #[tactic(auto, using(crate::proofs::Lists::all_indexes_are))]
+    pub fn all_indexes(
+        &self,
+        tokens: &TokenStream<'_>,
+        nesting: Nesting,
+        at: usize,
+    ) -> Result<(Items<Items<Index>>, usize), Refusal>
+        requires { Nests nesting.levels (F.pre self.now.operation) (F.post self.now.operation) }
+        ensures { Says (read_all_indexes tokens.now nesting.levels nesting.outer at) result }
+    {
+        let (first, at) = self.indexes(tokens, nesting, at)?;
+        let mut all = Items::new(self.alloc);
+        all.push(first)?;
+        self.more_of_all_indexes(tokens, nesting, at, all)
+    }
+
+    /// What stands behind the first of them.
+    #[tactic(auto, using(crate::proofs::Loops::some_ends, crate::proofs::Loops::some_stops, crate::proofs::Lists::all_indexes_go_on))]
+    fn more_of_all_indexes(
+        &self,
+        tokens: &TokenStream<'_>,
+        nesting: Nesting,
+        at: usize,
+        all: Items<Items<Index>>,
+    ) -> Result<(Items<Items<Index>>, usize), Refusal>
+        requires { Nests nesting.levels (F.pre self.now.operation) (F.post self.now.operation) }
+        ensures { Says (rest_some tokens.now language.indexes nesting.levels nesting.outer (length tokens.now) all at) result }
+    {
+        let mut all = all;
+        let mut at = at;
+        'turn: for turn in 0..tokens.len() {
+            if !next_is(tokens, at, Word::LeftBracket) {
+                return Ok((all, at));
+            }
+            let (next, behind) = self.indexes(tokens, nesting, at)?;
+            all.push(next)?;
+            at = behind;
+        }
+        Ok((all, at))
+    }
+}

@@ -1,0 +1,52 @@
+//! An expression of a text.
+
+ghost use Rattle.qt_words.specs.Terminals.{terminals};
+ghost use Rattle.qt_expr.specs.Refusals.{AnswersExpression};
+
+use crate::expression::expression;
+use crate::nesting::Nesting;
+use crate::refusal::{ParseRefusal, told};
+use qt_lex::tokens::Token;
+use qt_tree::expression::Expr;
+use qt_words::stream::TokenStream;
+use std::alloc::Global;
+
+/// How many levels of nesting there are at most.
+const MOST_LEVELS: usize = 64;
+
+/// The expression that begins at a token, which has that depth; the refusals are by place.
+fn expression_at(
+    alloc: Global,
+    tokens: &TokenStream<'_>,
+    at: usize,
+    depth: u32,
+) -> Result<(Expr, usize), ParseRefusal>
+    ensures { AnswersExpression tokens.now depth at result }
+{
+    let nesting = Nesting {
+        levels: MOST_LEVELS.saturating_sub(depth as usize),
+        outer: None,
+    };
+    match expression(alloc, tokens, nesting, at) {
+        Ok(found) => Ok(found),
+        Err(refusal) => Err(told(tokens, refusal)),
+    }
+}
+
+/// The expression that begins at a token of a text, and the number of the token behind it; `depth` is the depth of the token at
+/// which it begins. The longest list of tokens from there on that opens an expression is read. Syntax or NotInProfile where that
+/// list isn't an expression, with the place of the token behind it; Nest where one of its tokens has a depth above 64, or is the
+/// 257th operator of an expression that stands in no other, with the first such token. An `@` is never at the beginning of a
+/// statement here, so that it is refused with Syntax.
+pub fn parse_expr(
+    alloc: Global,
+    text: &str,
+    tokens: &[Token],
+    at: usize,
+    depth: u32,
+) -> Result<(Expr, usize), ParseRefusal>
+    ensures { AnswersExpression (terminals text.now tokens.now) depth at result }
+{
+    let stream = TokenStream::new(alloc, text, tokens)?;
+    expression_at(alloc, &stream, at, depth)
+}

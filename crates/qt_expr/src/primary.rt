@@ -1,0 +1,251 @@
+//! Primaries, and factors: primaries with their unary operators and exponents.
+
+ghost use Rattle.std.specs.Prelude.{◌≡◌, ◌+◌, ◌≤◌, length, None, Some};
+ghost use Rattle.qt_words.specs.declared.word.Word.TheVariants as w;
+ghost use Rattle.qt_grammar.specs.Form as form;
+ghost use Rattle.qt_grammar.specs.Sorts as sorts;
+ghost use Rattle.qt_grammar.specs.Language as language;
+ghost use Rattle.qt_grammar.specs.Outcome.{Says};
+ghost use Rattle.qt_expr.specs.Nested.{Nests};
+ghost use Rattle.qt_expr.specs.Parser.{read_cast, read_dimension, read_factor, read_in_size_of, read_name, read_power, read_primary, read_scalar, read_size_of, read_sized};
+
+use crate::literal::literal;
+use crate::nesting::{Nesting, too_deep};
+use crate::operator::{binary, operator, unary_operator};
+use crate::reader::Reader;
+use crate::sign::{behind, label, next_is, sign};
+use qt_grammar::refusal::Refusal;
+use qt_tree::expression::{BinaryOp, Expr, Scalar};
+use qt_tree::label::Label;
+use qt_words::stream::TokenStream;
+use qt_words::word::Word;
+use sqlite_items::{Boxed, Items};
+use std::alloc::Global;
+
+impl<
+    F: Fn(Global, &TokenStream<'_>, Nesting, usize, usize) -> Result<(Expr, usize), Refusal>,
+> Reader<F> {
+    /// `[ "[" expr "]" ]`
+    #[tactic(auto, unfolding(crate::specs::Parser::read_sized, crate::specs::Parser::read_size))]
+    pub fn size_or_none(
+        &self,
+        tokens: &TokenStream<'_>,
+        nesting: Nesting,
+        at: usize,
+    ) -> Result<(Option<Boxed<Expr>>, usize), Refusal>
+        requires { Nests nesting.levels (F.pre self.now.operation) (F.post self.now.operation) }
+        ensures { Says (read_sized tokens.now nesting.levels nesting.outer at) result }
+    {
+        if !next_is(tokens, at, Word::LeftBracket) {
+            return Ok((None, at));
+        }
+        let (size, at) = self.size(tokens, nesting, at)?;
+        Ok((Some(Boxed::new(self.alloc, size)?), at))
+    }
+
+    /// `"bool" | ( "bit" | "int" | "uint" | "angle" ) [ "[" expr "]" ]`
+    #[tactic(auto, unfolding(crate::specs::Parser::read_scalar, crate::specs::Parser::read_sized))]
+    pub fn scalar(
+        &self,
+        tokens: &TokenStream<'_>,
+        nesting: Nesting,
+        at: usize,
+    ) -> Result<(Scalar, usize), Refusal>
+        requires { Nests nesting.levels (F.pre self.now.operation) (F.post self.now.operation) }
+        ensures { Says (read_scalar tokens.now nesting.levels nesting.outer at) result }
+    {
+        match tokens.word(at) {
+            Word::Bool => Ok((Scalar::Bool, behind(tokens, at))),
+            Word::Bit => {
+                let (size, at) = self.size_or_none(tokens, nesting, behind(tokens, at))?;
+                Ok((Scalar::Bit { size }, at))
+            }
+            Word::Int => {
+                let (size, at) = self.size_or_none(tokens, nesting, behind(tokens, at))?;
+                Ok((Scalar::Int { size }, at))
+            }
+            Word::Uint => {
+                let (size, at) = self.size_or_none(tokens, nesting, behind(tokens, at))?;
+                Ok((Scalar::Uint { size }, at))
+            }
+            Word::Angle => {
+                let (size, at) = self.size_or_none(tokens, nesting, behind(tokens, at))?;
+                Ok((Scalar::Angle { size }, at))
+            }
+            _ => Err(Refusal::Syntax(at)),
+        }
+    }
+
+    /// `scalar "(" expr ")"`
+    #[tactic(auto, unfolding(crate::specs::Parser::read_cast, crate::specs::Parser::read_scalar, crate::specs::Parser::read_in_parentheses))]
+    pub fn cast(
+        &self,
+        tokens: &TokenStream<'_>,
+        nesting: Nesting,
+        at: usize,
+    ) -> Result<(Expr, usize), Refusal>
+        requires { Nests nesting.levels (F.pre self.now.operation) (F.post self.now.operation) }
+        ensures { Says (read_cast tokens.now nesting.levels nesting.outer at) result }
+    {
+        let (to, at) = self.scalar(tokens, nesting, at)?;
+        let (operand, at) = self.in_parentheses(tokens, nesting, at)?;
+        let operand = Boxed::new(self.alloc, operand)?;
+        Ok((Expr::Cast { to, operand }, at))
+    }
+
+    /// `"sizeof" "(" Name [ "," expr ] ")"`
+    #[tactic(auto, unfolding(crate::specs::Parser::read_size_of, crate::specs::Parser::read_in_size_of, crate::specs::Parser::read_sign))]
+    pub fn size_of(
+        &self,
+        tokens: &TokenStream<'_>,
+        nesting: Nesting,
+        at: usize,
+    ) -> Result<(Expr, usize), Refusal>
+        requires { Nests nesting.levels (F.pre self.now.operation) (F.post self.now.operation) }
+        ensures { Says (read_size_of tokens.now nesting.levels nesting.outer at) result }
+    {
+        let at = sign(tokens, at, Word::SizeOf)?;
+        let at = sign(tokens, at, Word::LeftParen)?;
+        let ((name, dimension), at) = self.in_size_of(tokens, nesting, at)?;
+        let at = sign(tokens, at, Word::RightParen)?;
+        Ok((Expr::SizeOf { name, dimension }, at))
+    }
+
+    /// What stands in the parentheses of `sizeof`, one level deeper.
+    #[tactic(auto, unfolding(crate::specs::Parser::read_in_size_of, crate::specs::Parser::read_dimension))]
+    pub fn in_size_of(
+        &self,
+        tokens: &TokenStream<'_>,
+        nesting: Nesting,
+        at: usize,
+    ) -> Result<((Label, Option<Boxed<Expr>>), usize), Refusal>
+        requires { Nests nesting.levels (F.pre self.now.operation) (F.post self.now.operation) }
+        ensures { Says (read_in_size_of tokens.now nesting.levels nesting.outer at) result }
+    {
+        if nesting.levels == 0 {
+            return Err(too_deep(at, next_is(tokens, at, Word::Name)));
+        }
+        self.dimension(tokens, nesting.below(), at)
+    }
+
+    /// `Name [ "," expr ]`
+    #[tactic(auto, unfolding(crate::specs::Parser::read_dimension, crate::specs::Parser::read_label, crate::specs::Parser::read_sign, crate::specs::Parser::read_expression))]
+    pub fn dimension(
+        &self,
+        tokens: &TokenStream<'_>,
+        nesting: Nesting,
+        at: usize,
+    ) -> Result<((Label, Option<Boxed<Expr>>), usize), Refusal>
+        requires { Nests (nesting.levels + 1) (F.pre self.now.operation) (F.post self.now.operation) }
+        ensures { Says (read_dimension tokens.now nesting.levels nesting.outer at) result }
+    {
+        let (name, at) = label(self.alloc, tokens, at)?;
+        if !next_is(tokens, at, Word::Comma) {
+            return Ok(((name, None), at));
+        }
+        let at = sign(tokens, at, Word::Comma)?;
+        let (dimension, at) = self.expression(tokens, nesting, at)?;
+        let dimension = Boxed::new(self.alloc, dimension)?;
+        Ok(((name, Some(dimension)), at))
+    }
+
+    /// `Name { "[" index { "," index } "]" } | Name "(" [ exprs ] ")"`
+    #[tactic(auto, unfolding(crate::specs::Parser::read_name, crate::specs::Parser::read_label, crate::specs::Parser::read_arguments, crate::specs::Parser::read_all_indexes))]
+    pub fn name(
+        &self,
+        tokens: &TokenStream<'_>,
+        nesting: Nesting,
+        at: usize,
+    ) -> Result<(Expr, usize), Refusal>
+        requires { Nests nesting.levels (F.pre self.now.operation) (F.post self.now.operation) }
+        ensures { Says (read_name tokens.now nesting.levels nesting.outer at) result }
+    {
+        let (name, at) = label(self.alloc, tokens, at)?;
+        match tokens.word(at) {
+            Word::LeftParen => {
+                let (arguments, at) = self.arguments(tokens, nesting, at)?;
+                Ok((Expr::Call { name, arguments }, at))
+            }
+            Word::LeftBracket => {
+                let (brackets, at) = self.all_indexes(tokens, nesting, at)?;
+                Ok((Expr::Name { name, brackets }, at))
+            }
+            _ => {
+                let brackets = Items::new(self.alloc);
+                Ok((Expr::Name { name, brackets }, at))
+            }
+        }
+    }
+
+    /// A literal, an expression in parentheses, a name or a call, a cast, or `sizeof`.
+    #[tactic(auto, unfolding(crate::specs::Parser::read_primary, crate::specs::Parser::read_literal, crate::specs::Parser::read_in_parentheses, crate::specs::Parser::read_name, crate::specs::Parser::read_cast, crate::specs::Parser::read_size_of))]
+    pub fn primary(
+        &self,
+        tokens: &TokenStream<'_>,
+        nesting: Nesting,
+        at: usize,
+    ) -> Result<(Expr, usize), Refusal>
+        requires { Nests nesting.levels (F.pre self.now.operation) (F.post self.now.operation) }
+        ensures { Says (read_primary tokens.now nesting.levels nesting.outer at) result }
+    {
+        match tokens.word(at) {
+            Word::LeftParen => {
+                let (inner, at) = self.in_parentheses(tokens, nesting, at)?;
+                let inner = Boxed::new(self.alloc, inner)?;
+                Ok((Expr::Parenthesized { inner }, at))
+            }
+            Word::Name => self.name(tokens, nesting, at),
+            Word::Bool | Word::Bit | Word::Int | Word::Uint | Word::Angle => {
+                self.cast(tokens, nesting, at)
+            }
+            Word::SizeOf => self.size_of(tokens, nesting, at),
+            _ => literal(tokens, at),
+        }
+    }
+
+    /// A primary, with its exponent if there is one.
+    #[tactic(auto, unfolding(crate::specs::Parser::read_power, crate::specs::Parser::read_primary, crate::specs::Parser::read_unary))]
+    pub fn power(
+        &self,
+        tokens: &TokenStream<'_>,
+        nesting: Nesting,
+        at: usize,
+    ) -> Result<(Expr, usize), Refusal>
+        requires { Nests nesting.levels (F.pre self.now.operation) (F.post self.now.operation) }
+        ensures { Says (read_power tokens.now nesting.levels nesting.outer at) result }
+    {
+        let (base, at) = self.primary(tokens, nesting, at)?;
+        if !next_is(tokens, at, Word::StarStar) {
+            return Ok((base, at));
+        }
+        let at = operator(tokens, nesting, at)?;
+        let (exponent, at) = self.unary(tokens, nesting, at)?;
+        Ok((binary(self.alloc, BinaryOp::Pow, base, exponent)?, at))
+    }
+
+    /// A unary operator with its operand, or a primary with its exponent if there is one.
+    #[tactic(auto, unfolding(crate::specs::Parser::read_factor, crate::specs::Parser::read_power, crate::specs::Parser::read_unary))]
+    pub fn factor(
+        &self,
+        tokens: &TokenStream<'_>,
+        nesting: Nesting,
+        at: usize,
+    ) -> Result<(Expr, usize), Refusal>
+        requires { Nests nesting.levels (F.pre self.now.operation) (F.post self.now.operation) }
+        ensures { Says (read_factor tokens.now nesting.levels nesting.outer at) result }
+    {
+        let Some(sign) = unary_operator(tokens.word(at)) else {
+            return self.power(tokens, nesting, at);
+        };
+        let at = operator(tokens, nesting, at)?;
+        let (operand, at) = self.unary(tokens, nesting, at)?;
+        let operand = Boxed::new(self.alloc, operand)?;
+        Ok((
+            Expr::Unary {
+                operator: sign,
+                operand,
+            },
+            at,
+        ))
+    }
+}
