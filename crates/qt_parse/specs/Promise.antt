@@ -1,0 +1,39 @@
+-- What `parse` answers for the tokens of a text: their program, or the token that is refused and why. OpenQASM 3.0, the grammar
+-- in the appendix of the live specification.
+use Rattle.std.specs.Prelude.{◌≡◌, ℕ, ◌⊎◌, List, Some, None}
+use Rattle.qt_tree.specs.declared.place.Place.{Place}
+use Rattle.qt_tree.specs.declared.refusal.Feature.{Feature}
+use Rattle.qt_tree.specs.declared.refusal.Feature.TheVariants as f
+use Rattle.qt_words.specs.declared.word.Word.TheVariants as w
+use Rattle.qt_words.specs.Words.{feature_of}
+use Rattle.qt_words.specs.Terminals.{Terminal, stream}
+use Rattle.qt_grammar.specs.Sorts.{program}
+use Rattle.qt_grammar.specs.Language.{whole}
+use Rattle.qt_grammar.specs.Reading.{language_limits}
+use Rattle.qt_grammar.specs.Promise.{NoProgram, FirstTooDeep, CouldBegin}
+use Rattle.qt_expr.specs.declared.refusal.ParseRefusal.{ParseRefusal}
+use Rattle.qt_expr.specs.declared.refusal.ParseRefusal.TheVariants.{Syntax, Nest, NotInProfile, OutOfMemory}
+
+module _ (all : List Terminal) where
+  -- the token at place n of the list is of a feature that the profile leaves out: by its word, or as an `@` where a statement,
+  -- or a call in a gate's body, could begin
+  abbrev pub IsOfFeature : ℕ → Feature → Type 0
+  IsOfFeature n feature = (feature_of (stream all n).word ≡ Some feature)
+      ⊎ (((stream all n).word ≡ w.At) × CouldBegin all n × (feature ≡ f.Annotation))
+
+  -- no program is spelled, whatever the limits, and the stopper stands at this place of the text
+  pub record StopsAt (n : ℕ) (at : Place) : Type 0 where
+    pub stopper : NoProgram (stream all) language_limits n
+    pub place : at ≡ (stream all n).place
+
+  -- the first token that is too deep, or an operator too many, stands at this place of the text
+  pub record TooDeepAt (n : ℕ) (at : Place) : Type 0 where
+    pub first : FirstTooDeep (stream all) program whole None 0 language_limits n
+    pub place : at ≡ (stream all n).place
+
+  -- a refusal is right
+  abbrev pub Refused : ParseRefusal → Type 0
+  Refused (Syntax at) = (n : ℕ) × StopsAt n at × ((feature : Feature) → IsOfFeature n feature → ⊥)
+  Refused (NotInProfile at feature) = (n : ℕ) × StopsAt n at × IsOfFeature n feature
+  Refused (Nest at) = (n : ℕ) × TooDeepAt n at
+  Refused OutOfMemory = Unit {0}

@@ -1,0 +1,342 @@
+//! Statements with a body, and bodies.
+
+ghost use Rattle.std.specs.Prelude.{◌≡◌, length, None};
+ghost use Rattle.qt_grammar.specs.Sorts.{statement};
+ghost use Rattle.qt_grammar.specs.Language as g;
+ghost use Rattle.qt_grammar.specs.Outcome.{Says};
+ghost use Rattle.qt_expr.specs.Parser.{rest_some};
+ghost use Rattle.qt_parse.specs.Parser.{read_block, read_statements, read_single, read_a_block, read_body, read_if, read_otherwise, read_while, read_sequence, read_for, read_statement_form, read_statement};
+
+use crate::assignments::by_name;
+use crate::lookahead::begins_statement;
+use crate::statements::{
+    alias, barrier, bit_register, break_statement, constant, continue_statement, declaration,
+    end_statement, gate_statement, measurement, reset, return_statement,
+};
+use qt_expr::expression::{in_parentheses, range, scalar, set};
+use qt_expr::nesting::{Nesting, too_deep};
+use qt_expr::sign::{label, next_is, sign};
+use qt_grammar::refusal::Refusal;
+use qt_tree::statement::{Sequence, Statement, StatementForm};
+use qt_words::stream::TokenStream;
+use qt_words::word::Word;
+use sqlite_items::Items;
+use std::alloc::Global;
+
+/// `"if" "(" expr ")" body [ "else" body ]`
+#[tactic(auto, unfolding(crate::specs::Parser::read_if, crate::specs::Parser::read_otherwise, crate::specs::Parser::read_body, qt_expr::specs::Parser::read_in_parentheses, qt_expr::specs::Parser::read_sign))]
+#[cycle(statement)]
+fn if_statement(
+    alloc: Global,
+    tokens: &TokenStream<'_>,
+    levels: usize,
+    at: usize,
+) -> Result<(StatementForm, usize), Refusal>
+    ensures { Says (read_if tokens.now levels at) result }
+{
+    let at = sign(tokens, at, Word::If)?;
+    let (condition, at) = in_parentheses(
+        alloc,
+        tokens,
+        Nesting {
+            levels,
+            outer: None,
+        },
+        at,
+    )?;
+    let (body, at) = body(alloc, tokens, levels, at)?;
+    let (otherwise, at) = otherwise(alloc, tokens, levels, at)?;
+    let form = StatementForm::If {
+        condition,
+        body,
+        otherwise,
+    };
+    Ok((form, at))
+}
+
+/// `[ "else" body ]`, which belongs to the nearest `if`.
+#[tactic(auto, unfolding(crate::specs::Parser::read_otherwise, crate::specs::Parser::read_body, qt_expr::specs::Parser::read_sign))]
+#[cycle(statement)]
+fn otherwise(
+    alloc: Global,
+    tokens: &TokenStream<'_>,
+    levels: usize,
+    at: usize,
+) -> Result<(Option<Items<Statement>>, usize), Refusal>
+    ensures { Says (read_otherwise tokens.now levels at) result }
+{
+    if !next_is(tokens, at, Word::Else) {
+        return Ok((None, at));
+    }
+    let at = sign(tokens, at, Word::Else)?;
+    let (body, at) = body(alloc, tokens, levels, at)?;
+    Ok((Some(body), at))
+}
+
+/// `"while" "(" expr ")" body`
+#[tactic(auto, unfolding(crate::specs::Parser::read_while, crate::specs::Parser::read_body, qt_expr::specs::Parser::read_in_parentheses, qt_expr::specs::Parser::read_sign))]
+#[cycle(statement)]
+fn while_loop(
+    alloc: Global,
+    tokens: &TokenStream<'_>,
+    levels: usize,
+    at: usize,
+) -> Result<(StatementForm, usize), Refusal>
+    ensures { Says (read_while tokens.now levels at) result }
+{
+    let at = sign(tokens, at, Word::While)?;
+    let (condition, at) = in_parentheses(
+        alloc,
+        tokens,
+        Nesting {
+            levels,
+            outer: None,
+        },
+        at,
+    )?;
+    let (body, at) = body(alloc, tokens, levels, at)?;
+    Ok((StatementForm::While { condition, body }, at))
+}
+
+/// `"[" range "]" | "{" exprs "}" | Name`
+#[tactic(auto, unfolding(crate::specs::Parser::read_sequence, qt_expr::specs::Parser::read_range, qt_expr::specs::Parser::read_set, qt_expr::specs::Parser::read_label, qt_expr::specs::Parser::read_sign))]
+fn sequence(
+    alloc: Global,
+    tokens: &TokenStream<'_>,
+    levels: usize,
+    at: usize,
+) -> Result<(Sequence, usize), Refusal>
+    ensures { Says (read_sequence tokens.now levels at) result }
+{
+    if next_is(tokens, at, Word::LeftBracket) {
+        let at = sign(tokens, at, Word::LeftBracket)?;
+        let (range, at) = range(
+            alloc,
+            tokens,
+            Nesting {
+                levels,
+                outer: None,
+            },
+            at,
+        )?;
+        let at = sign(tokens, at, Word::RightBracket)?;
+        return Ok((Sequence::Range { range }, at));
+    }
+    if next_is(tokens, at, Word::LeftBrace) {
+        let (members, at) = set(
+            alloc,
+            tokens,
+            Nesting {
+                levels,
+                outer: None,
+            },
+            at,
+        )?;
+        return Ok((Sequence::Set { members }, at));
+    }
+    let (name, at) = label(alloc, tokens, at)?;
+    Ok((Sequence::Name { name }, at))
+}
+
+/// `"for" scalar Name "in" ( "[" range "]" | "{" exprs "}" | Name ) body`
+#[tactic(auto, unfolding(crate::specs::Parser::read_for, crate::specs::Parser::read_sequence, crate::specs::Parser::read_body, qt_expr::specs::Parser::read_scalar, qt_expr::specs::Parser::read_label, qt_expr::specs::Parser::read_sign))]
+#[cycle(statement)]
+fn for_loop(
+    alloc: Global,
+    tokens: &TokenStream<'_>,
+    levels: usize,
+    at: usize,
+) -> Result<(StatementForm, usize), Refusal>
+    ensures { Says (read_for tokens.now levels at) result }
+{
+    let at = sign(tokens, at, Word::For)?;
+    let (scalar, at) = scalar(
+        alloc,
+        tokens,
+        Nesting {
+            levels,
+            outer: None,
+        },
+        at,
+    )?;
+    let (name, at) = label(alloc, tokens, at)?;
+    let at = sign(tokens, at, Word::In)?;
+    let (values, at) = sequence(alloc, tokens, levels, at)?;
+    let (body, at) = body(alloc, tokens, levels, at)?;
+    let form = StatementForm::For {
+        scalar,
+        name,
+        values,
+        body,
+    };
+    Ok((form, at))
+}
+
+/// A statement, but for its place.
+#[tactic(auto, unfolding(crate::specs::Parser::read_statement_form, crate::specs::Parser::read_if, crate::specs::Parser::read_while, crate::specs::Parser::read_for, crate::specs::Parser::read_declaration, crate::specs::Parser::read_bit_register, crate::specs::Parser::read_constant, crate::specs::Parser::read_alias, crate::specs::Parser::read_by_name, crate::specs::Parser::read_gate_statement, crate::specs::Parser::read_measurement, crate::specs::Parser::read_reset, crate::specs::Parser::read_barrier, crate::specs::Parser::read_return, crate::specs::Parser::read_word_alone))]
+#[cycle(statement)]
+pub fn statement_form(
+    alloc: Global,
+    tokens: &TokenStream<'_>,
+    levels: usize,
+    at: usize,
+) -> Result<(StatementForm, usize), Refusal>
+    ensures { Says (read_statement_form tokens.now levels at) result }
+{
+    match tokens.word(at) {
+        Word::Bool | Word::Bit | Word::Int | Word::Uint | Word::Angle => declaration(
+            alloc, tokens, levels, at,
+        ),
+        Word::Creg => bit_register(alloc, tokens, levels, at),
+        Word::Const => constant(alloc, tokens, levels, at),
+        Word::Let => alias(alloc, tokens, levels, at),
+        Word::Name => by_name(alloc, tokens, levels, at),
+        Word::Inv | Word::Pow | Word::Ctrl | Word::NegCtrl | Word::GPhase => gate_statement(
+            alloc, tokens, levels, at,
+        ),
+        Word::Measure => measurement(alloc, tokens, levels, at),
+        Word::Reset => reset(alloc, tokens, levels, at),
+        Word::Barrier => barrier(alloc, tokens, levels, at),
+        Word::If => if_statement(alloc, tokens, levels, at),
+        Word::While => while_loop(alloc, tokens, levels, at),
+        Word::For => for_loop(alloc, tokens, levels, at),
+        Word::Break => break_statement(tokens, at),
+        Word::Continue => continue_statement(tokens, at),
+        Word::Return => return_statement(alloc, tokens, levels, at),
+        _ => end_statement(tokens, at),
+    }
+}
+
+/// `statement`
+#[tactic(auto, unfolding(crate::specs::Parser::read_statement, crate::specs::Parser::read_statement_form))]
+#[cycle(statement)]
+fn statement(
+    alloc: Global,
+    tokens: &TokenStream<'_>,
+    levels: usize,
+    at: usize,
+) -> Result<(Statement, usize), Refusal>
+    ensures { Says (read_statement tokens.now levels at) result }
+{
+    let place = tokens.place(at);
+    let (form, at) = statement_form(alloc, tokens, levels, at)?;
+    Ok((Statement { place, form }, at))
+}
+
+/// Statements, at least one.
+#[tactic(auto, unfolding(crate::specs::Parser::read_statements, crate::specs::Parser::read_statement, qt_expr::specs::Parser::rest_some))]
+#[cycle(statement)]
+fn statements(
+    alloc: Global,
+    tokens: &TokenStream<'_>,
+    levels: usize,
+    at: usize,
+) -> Result<(Items<Statement>, usize), Refusal>
+    ensures { Says (read_statements tokens.now levels at) result }
+{
+    let (first, at) = statement(alloc, tokens, levels, at)?;
+    let mut all = Items::new(alloc);
+    all.push(first)?;
+    more_statements(alloc, tokens, levels, at, all)
+}
+
+/// The statements behind the first.
+#[tactic(auto, using(qt_expr::proofs::Loops::some_ends, qt_expr::proofs::Loops::some_stops, crate::proofs::Lists::statements_go_on))]
+#[cycle(statement)]
+fn more_statements(
+    alloc: Global,
+    tokens: &TokenStream<'_>,
+    levels: usize,
+    at: usize,
+    all: Items<Statement>,
+) -> Result<(Items<Statement>, usize), Refusal>
+    ensures { Says (rest_some tokens.now {s = statement} g.a_statement levels None (length tokens.now) all at) result }
+{
+    let mut all = all;
+    let mut at = at;
+    'turn: for turn in 0..tokens.len() {
+        if !begins_statement(tokens, at) {
+            return Ok((all, at));
+        }
+        let (next, behind) = statement(alloc, tokens, levels, at)?;
+        all.push(next)?;
+        at = behind;
+    }
+    Ok((all, at))
+}
+
+/// The statements in the braces of a body, one level deeper.
+#[tactic(auto, using(crate::proofs::Levels::block_is), unfolding(crate::specs::Parser::read_block))]
+#[cycle(statement)]
+fn block(
+    alloc: Global,
+    tokens: &TokenStream<'_>,
+    levels: usize,
+    at: usize,
+) -> Result<(Items<Statement>, usize), Refusal>
+    ensures { Says (read_block tokens.now levels at) result }
+{
+    if levels == 0 {
+        return Err(too_deep(at, begins_statement(tokens, at)));
+    }
+    statements(alloc, tokens, levels - 1, at)
+}
+
+/// The single statement that is a body, one level deeper.
+#[tactic(auto, using(crate::proofs::Levels::single_is), unfolding(crate::specs::Parser::read_single))]
+#[cycle(statement)]
+fn single(
+    alloc: Global,
+    tokens: &TokenStream<'_>,
+    levels: usize,
+    at: usize,
+) -> Result<(Items<Statement>, usize), Refusal>
+    ensures { Says (read_single tokens.now levels at) result }
+{
+    if levels == 0 {
+        return Err(too_deep(at, begins_statement(tokens, at)));
+    }
+    let (only, at) = statement(alloc, tokens, levels - 1, at)?;
+    let mut all = Items::new(alloc);
+    all.push(only)?;
+    Ok((all, at))
+}
+
+/// `block = "{" { statement } "}"`
+#[tactic(auto, unfolding(crate::specs::Parser::read_a_block, crate::specs::Parser::read_block, qt_expr::specs::Parser::read_sign))]
+#[cycle(statement)]
+pub fn braced(
+    alloc: Global,
+    tokens: &TokenStream<'_>,
+    levels: usize,
+    at: usize,
+) -> Result<(Items<Statement>, usize), Refusal>
+    ensures { Says (read_a_block tokens.now levels at) result }
+{
+    let at = sign(tokens, at, Word::LeftBrace)?;
+    let (all, at) = if begins_statement(tokens, at) {
+        block(alloc, tokens, levels, at)?
+    } else {
+        (Items::new(alloc), at)
+    };
+    let at = sign(tokens, at, Word::RightBrace)?;
+    Ok((all, at))
+}
+
+/// `body = block | statement`
+#[tactic(auto, unfolding(crate::specs::Parser::read_body, crate::specs::Parser::read_a_block, crate::specs::Parser::read_single))]
+#[cycle(statement)]
+fn body(
+    alloc: Global,
+    tokens: &TokenStream<'_>,
+    levels: usize,
+    at: usize,
+) -> Result<(Items<Statement>, usize), Refusal>
+    ensures { Says (read_body tokens.now levels at) result }
+{
+    if next_is(tokens, at, Word::LeftBrace) {
+        braced(alloc, tokens, levels, at)
+    } else {
+        single(alloc, tokens, levels, at)
+    }
+}

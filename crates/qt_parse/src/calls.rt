@@ -1,0 +1,286 @@
+//! Gate calls and their modifiers.
+
+ghost use Rattle.std.specs.Prelude.{◌≡◌, ◌<◌, length, None};
+ghost use Rattle.qt_words.specs.Words as words;
+ghost use Rattle.qt_words.specs.Terminals.{stream};
+ghost use Rattle.qt_grammar.specs.Sorts.{modifier};
+ghost use Rattle.qt_grammar.specs.Form.{member, word_at};
+ghost use Rattle.qt_grammar.specs.Lookahead.{first};
+ghost use Rattle.qt_grammar.specs.Language as g;
+ghost use Rattle.qt_grammar.specs.Outcome.{Says};
+ghost use Rattle.qt_expr.specs.Parser.{rest_some};
+ghost use Rattle.qt_parse.specs.Parser.{modifier_sign, read_controls, read_modifier, read_modifier_sign, read_modifiers, read_phase_call, read_gate_arguments, read_named_call, read_bare_call, read_modified_call, read_gate_call};
+
+use crate::operands::{any_operands, operands};
+use qt_expr::expression::{arguments, in_parentheses};
+use qt_expr::nesting::Nesting;
+use qt_expr::sign::{label, next_is, sign};
+use qt_grammar::refusal::Refusal;
+use qt_tree::expression::Expr;
+use qt_tree::statement::{CalledGate, GateCall, Modifier};
+use qt_words::stream::TokenStream;
+use qt_words::word::Word;
+use sqlite_items::Items;
+use std::alloc::Global;
+
+/// Does a modifier begin here?
+pub fn begins_modifier(tokens: &TokenStream<'_>, at: usize) -> bool
+    ensures { result ≡ member (word_at (stream tokens.now) at) (first g.a_modifier) }
+{
+    match tokens.word(at) {
+        Word::Inv | Word::Pow | Word::Ctrl | Word::NegCtrl => true,
+        _ => false,
+    }
+}
+
+/// `( "ctrl" | "negctrl" ) [ "(" expr ")" ]`, of which the number of controls is answered.
+#[tactic(auto, unfolding(crate::specs::Parser::read_controls, qt_expr::specs::Parser::read_in_parentheses, qt_expr::specs::Parser::read_sign))]
+fn controls(
+    alloc: Global,
+    tokens: &TokenStream<'_>,
+    levels: usize,
+    at: usize,
+    word: Word,
+) -> Result<(Option<Expr>, usize), Refusal>
+    requires { 0 < words.code word }
+    ensures { Says (read_controls tokens.now word levels at) result }
+{
+    let at = sign(tokens, at, word)?;
+    if !next_is(tokens, at, Word::LeftParen) {
+        return Ok((None, at));
+    }
+    let (count, at) = in_parentheses(
+        alloc,
+        tokens,
+        Nesting {
+            levels,
+            outer: None,
+        },
+        at,
+    )?;
+    Ok((Some(count), at))
+}
+
+/// `modifier = "inv" | "pow" "(" expr ")" | ( "ctrl" | "negctrl" ) [ "(" expr ")" ]`
+#[tactic(auto, unfolding(crate::specs::Parser::read_modifier, crate::specs::Parser::read_controls, qt_expr::specs::Parser::read_in_parentheses, qt_expr::specs::Parser::read_sign))]
+fn modifier(
+    alloc: Global,
+    tokens: &TokenStream<'_>,
+    levels: usize,
+    at: usize,
+) -> Result<(Modifier, usize), Refusal>
+    ensures { Says (read_modifier tokens.now levels at) result }
+{
+    match tokens.word(at) {
+        Word::Inv => {
+            let at = sign(tokens, at, Word::Inv)?;
+            Ok((Modifier::Inv, at))
+        }
+        Word::Pow => {
+            let at = sign(tokens, at, Word::Pow)?;
+            let (exponent, at) = in_parentheses(
+                alloc,
+                tokens,
+                Nesting {
+                    levels,
+                    outer: None,
+                },
+                at,
+            )?;
+            Ok((Modifier::Pow { exponent }, at))
+        }
+        Word::Ctrl => {
+            let (count, at) = controls(alloc, tokens, levels, at, Word::Ctrl)?;
+            Ok((Modifier::Ctrl { count }, at))
+        }
+        _ => {
+            let (count, at) = controls(alloc, tokens, levels, at, Word::NegCtrl)?;
+            Ok((Modifier::NegCtrl { count }, at))
+        }
+    }
+}
+
+/// A modifier and its `@`.
+#[tactic(auto, unfolding(crate::specs::Parser::read_modifier_sign, crate::specs::Parser::read_modifier, qt_expr::specs::Parser::read_sign))]
+fn modifier_sign(
+    alloc: Global,
+    tokens: &TokenStream<'_>,
+    levels: usize,
+    at: usize,
+) -> Result<(Modifier, usize), Refusal>
+    ensures { Says (read_modifier_sign tokens.now levels at) result }
+{
+    let (modifier, at) = modifier(alloc, tokens, levels, at)?;
+    let at = sign(tokens, at, Word::At)?;
+    Ok((modifier, at))
+}
+
+/// `{ modifier "@" }`, at least one; the outermost is the first.
+#[tactic(auto, unfolding(crate::specs::Parser::read_modifier_sign, crate::specs::Parser::read_modifiers, qt_expr::specs::Parser::rest_some))]
+fn modifiers(
+    alloc: Global,
+    tokens: &TokenStream<'_>,
+    levels: usize,
+    at: usize,
+) -> Result<(Items<Modifier>, usize), Refusal>
+    ensures { Says (read_modifiers tokens.now levels at) result }
+{
+    let (first, at) = modifier_sign(alloc, tokens, levels, at)?;
+    let mut all = Items::new(alloc);
+    all.push(first)?;
+    more_modifiers(alloc, tokens, levels, at, all)
+}
+
+/// The modifiers behind the first.
+#[tactic(auto, using(qt_expr::proofs::Loops::some_ends, qt_expr::proofs::Loops::some_stops, crate::proofs::Lists::modifiers_go_on))]
+fn more_modifiers(
+    alloc: Global,
+    tokens: &TokenStream<'_>,
+    levels: usize,
+    at: usize,
+    all: Items<Modifier>,
+) -> Result<(Items<Modifier>, usize), Refusal>
+    ensures { Says (rest_some tokens.now {s = modifier} modifier_sign levels None (length tokens.now) all at) result }
+{
+    let mut all = all;
+    let mut at = at;
+    'turn: for turn in 0..tokens.len() {
+        if !begins_modifier(tokens, at) {
+            return Ok((all, at));
+        }
+        let (next, behind) = modifier_sign(alloc, tokens, levels, at)?;
+        all.push(next)?;
+        at = behind;
+    }
+    Ok((all, at))
+}
+
+/// `"gphase" "(" expr ")" [ operands ]`
+#[tactic(auto, unfolding(crate::specs::Parser::read_phase_call, crate::specs::Parser::read_any_operands, qt_expr::specs::Parser::read_in_parentheses, qt_expr::specs::Parser::read_sign))]
+pub fn phase_call(
+    alloc: Global,
+    tokens: &TokenStream<'_>,
+    levels: usize,
+    at: usize,
+) -> Result<(GateCall, usize), Refusal>
+    ensures { Says (read_phase_call tokens.now levels at) result }
+{
+    let at = sign(tokens, at, Word::GPhase)?;
+    let (angle, at) = in_parentheses(
+        alloc,
+        tokens,
+        Nesting {
+            levels,
+            outer: None,
+        },
+        at,
+    )?;
+    let (operands, at) = any_operands(alloc, tokens, levels, at)?;
+    let call = GateCall {
+        modifiers: Items::new(alloc),
+        gate: CalledGate::GlobalPhase { angle },
+        operands,
+    };
+    Ok((call, at))
+}
+
+/// `[ "(" [ exprs ] ")" ]`: None where no parentheses stand.
+#[tactic(auto, unfolding(crate::specs::Parser::read_gate_arguments, qt_expr::specs::Parser::read_arguments))]
+fn gate_arguments(
+    alloc: Global,
+    tokens: &TokenStream<'_>,
+    levels: usize,
+    at: usize,
+) -> Result<(Option<Items<Expr>>, usize), Refusal>
+    ensures { Says (read_gate_arguments tokens.now levels at) result }
+{
+    if !next_is(tokens, at, Word::LeftParen) {
+        return Ok((None, at));
+    }
+    let (arguments, at) = arguments(
+        alloc,
+        tokens,
+        Nesting {
+            levels,
+            outer: None,
+        },
+        at,
+    )?;
+    Ok((Some(arguments), at))
+}
+
+/// `Name [ "(" [ exprs ] ")" ] operands`
+#[tactic(auto, unfolding(crate::specs::Parser::read_named_call, crate::specs::Parser::read_gate_arguments, crate::specs::Parser::read_operands, qt_expr::specs::Parser::read_label))]
+fn named_call(
+    alloc: Global,
+    tokens: &TokenStream<'_>,
+    levels: usize,
+    at: usize,
+) -> Result<(GateCall, usize), Refusal>
+    ensures { Says (read_named_call tokens.now levels at) result }
+{
+    let (name, at) = label(alloc, tokens, at)?;
+    let (arguments, at) = gate_arguments(alloc, tokens, levels, at)?;
+    let (operands, at) = operands(alloc, tokens, levels, at, Word::Comma)?;
+    let call = GateCall {
+        modifiers: Items::new(alloc),
+        gate: CalledGate::Named { name, arguments },
+        operands,
+    };
+    Ok((call, at))
+}
+
+/// A gate call without modifiers.
+#[tactic(auto, unfolding(crate::specs::Parser::read_bare_call, crate::specs::Parser::read_phase_call, crate::specs::Parser::read_named_call))]
+fn bare_call(
+    alloc: Global,
+    tokens: &TokenStream<'_>,
+    levels: usize,
+    at: usize,
+) -> Result<(GateCall, usize), Refusal>
+    ensures { Says (read_bare_call tokens.now levels at) result }
+{
+    if next_is(tokens, at, Word::GPhase) {
+        phase_call(alloc, tokens, levels, at)
+    } else {
+        named_call(alloc, tokens, levels, at)
+    }
+}
+
+/// A gate call with modifiers.
+#[tactic(auto, unfolding(crate::specs::Parser::read_modified_call, crate::specs::Parser::read_modifiers, crate::specs::Parser::read_bare_call))]
+pub fn modified_call(
+    alloc: Global,
+    tokens: &TokenStream<'_>,
+    levels: usize,
+    at: usize,
+) -> Result<(GateCall, usize), Refusal>
+    ensures { Says (read_modified_call tokens.now levels at) result }
+{
+    let (modifiers, at) = modifiers(alloc, tokens, levels, at)?;
+    let (call, at) = bare_call(alloc, tokens, levels, at)?;
+    let GateCall { gate, operands, .. } = call;
+    let call = GateCall {
+        modifiers,
+        gate,
+        operands,
+    };
+    Ok((call, at))
+}
+
+/// `gatecall`, but for its semicolon.
+#[tactic(auto, unfolding(crate::specs::Parser::read_gate_call, crate::specs::Parser::read_modified_call, crate::specs::Parser::read_bare_call))]
+pub fn gate_call(
+    alloc: Global,
+    tokens: &TokenStream<'_>,
+    levels: usize,
+    at: usize,
+) -> Result<(GateCall, usize), Refusal>
+    ensures { Says (read_gate_call tokens.now levels at) result }
+{
+    if begins_modifier(tokens, at) {
+        modified_call(alloc, tokens, levels, at)
+    } else {
+        bare_call(alloc, tokens, levels, at)
+    }
+}

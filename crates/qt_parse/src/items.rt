@@ -1,0 +1,170 @@
+//! Includes, inputs and outputs, and qubits.
+
+ghost use Rattle.qt_words.specs.Terminals.{stream};
+ghost use Rattle.std.specs.Prelude.{◌≡◌, ◌<◌};
+ghost use Rattle.qt_words.specs.Words as words;
+ghost use Rattle.qt_words.specs.declared.word.Word.TheVariants as w;
+ghost use Rattle.qt_tree.specs.declared.program.Item.TheVariants as i;
+ghost use Rattle.qt_grammar.specs.Outcome.{Says};
+ghost use Rattle.qt_expr.specs.Parser.{Steps};
+ghost use Rattle.qt_parse.specs.Parser.{read_include, read_quoted, read_declared, read_interface, read_qubits, read_qubit_item, read_register_item};
+
+use crate::statements::optional_size;
+use qt_expr::expression::scalar;
+use qt_expr::nesting::Nesting;
+use qt_expr::sign::{label, next_is, sign};
+use qt_grammar::refusal::Refusal;
+use qt_tree::expression::{Expr, Scalar};
+use qt_tree::label::Label;
+use qt_tree::place::Place;
+use qt_tree::program::Item;
+use qt_words::stream::TokenStream;
+use qt_words::word::Word;
+use std::alloc::Global;
+
+/// A text in quotes, whether its characters are binary digits or not.
+#[tactic(auto, unfolding(crate::specs::Parser::read_quoted, qt_expr::specs::Parser::read_sign))]
+fn quoted(tokens: &TokenStream<'_>, at: usize) -> Result<usize, Refusal>
+    ensures { Steps (read_quoted tokens.now at) (stream tokens.now at) result }
+{
+    if next_is(tokens, at, Word::Text) {
+        sign(tokens, at, Word::Text)
+    } else {
+        sign(tokens, at, Word::BitText)
+    }
+}
+
+/// `"include" Text ";"`
+#[tactic(auto, unfolding(crate::specs::Parser::read_include, crate::specs::Parser::read_quoted, qt_expr::specs::Parser::read_sign))]
+pub fn include(
+    alloc: Global,
+    tokens: &TokenStream<'_>,
+    at: usize,
+    place: Place,
+) -> Result<(Item, usize), Refusal>
+    ensures { Says (read_include tokens.now place at) result }
+{
+    let at = sign(tokens, at, Word::Include)?;
+    let text = at;
+    let at = quoted(tokens, at)?;
+    let at = sign(tokens, at, Word::Semicolon)?;
+    let name = Label::new(alloc, tokens.inside_quotes(text))?;
+    Ok((Item::Include { place, name }, at))
+}
+
+/// A word, a type and a name with their semicolon.
+#[tactic(auto, unfolding(crate::specs::Parser::read_declared, qt_expr::specs::Parser::read_scalar, qt_expr::specs::Parser::read_label, qt_expr::specs::Parser::read_sign))]
+fn declared(
+    alloc: Global,
+    tokens: &TokenStream<'_>,
+    levels: usize,
+    at: usize,
+    word: Word,
+) -> Result<((Scalar, Label), usize), Refusal>
+    requires { 0 < words.code word }
+    ensures { Says (read_declared tokens.now word levels at) result }
+{
+    let at = sign(tokens, at, word)?;
+    let (scalar, at) = scalar(
+        alloc,
+        tokens,
+        Nesting {
+            levels,
+            outer: None,
+        },
+        at,
+    )?;
+    let (name, at) = label(alloc, tokens, at)?;
+    let at = sign(tokens, at, Word::Semicolon)?;
+    Ok(((scalar, name), at))
+}
+
+/// `"input" scalar Name ";"`
+#[tactic(auto, unfolding(crate::specs::Parser::read_interface, crate::specs::Parser::read_declared))]
+pub fn input(
+    alloc: Global,
+    tokens: &TokenStream<'_>,
+    levels: usize,
+    at: usize,
+    place: Place,
+) -> Result<(Item, usize), Refusal>
+    ensures { Says (read_interface tokens.now w.Input i.Input levels place at) result }
+{
+    let ((scalar, name), at) = declared(alloc, tokens, levels, at, Word::Input)?;
+    let item = Item::Input {
+        place,
+        scalar,
+        name,
+    };
+    Ok((item, at))
+}
+
+/// `"output" scalar Name ";"`
+#[tactic(auto, unfolding(crate::specs::Parser::read_interface, crate::specs::Parser::read_declared))]
+pub fn output(
+    alloc: Global,
+    tokens: &TokenStream<'_>,
+    levels: usize,
+    at: usize,
+    place: Place,
+) -> Result<(Item, usize), Refusal>
+    ensures { Says (read_interface tokens.now w.Output i.Output levels place at) result }
+{
+    let ((scalar, name), at) = declared(alloc, tokens, levels, at, Word::Output)?;
+    let item = Item::Output {
+        place,
+        scalar,
+        name,
+    };
+    Ok((item, at))
+}
+
+/// `"qubit" [ "[" expr "]" ] Name`
+#[tactic(auto, unfolding(crate::specs::Parser::read_qubits, crate::specs::Parser::read_optional_size, qt_expr::specs::Parser::read_label, qt_expr::specs::Parser::read_sign))]
+pub fn qubits(
+    alloc: Global,
+    tokens: &TokenStream<'_>,
+    levels: usize,
+    at: usize,
+) -> Result<((Option<Expr>, Label), usize), Refusal>
+    ensures { Says (read_qubits tokens.now levels at) result }
+{
+    let at = sign(tokens, at, Word::Qubit)?;
+    let (size, at) = optional_size(alloc, tokens, levels, at)?;
+    let (name, at) = label(alloc, tokens, at)?;
+    Ok(((size, name), at))
+}
+
+/// `"qubit" [ "[" expr "]" ] Name ";"`
+#[tactic(auto, unfolding(crate::specs::Parser::read_qubit_item, crate::specs::Parser::read_qubits, qt_expr::specs::Parser::read_sign))]
+pub fn qubit_item(
+    alloc: Global,
+    tokens: &TokenStream<'_>,
+    levels: usize,
+    at: usize,
+    place: Place,
+) -> Result<(Item, usize), Refusal>
+    ensures { Says (read_qubit_item tokens.now levels place at) result }
+{
+    let ((size, name), at) = qubits(alloc, tokens, levels, at)?;
+    let at = sign(tokens, at, Word::Semicolon)?;
+    Ok((Item::Qubit { place, size, name }, at))
+}
+
+/// `"qreg" Name [ "[" expr "]" ] ";"`
+#[tactic(auto, unfolding(crate::specs::Parser::read_register_item, crate::specs::Parser::read_optional_size, qt_expr::specs::Parser::read_label, qt_expr::specs::Parser::read_sign))]
+pub fn register_item(
+    alloc: Global,
+    tokens: &TokenStream<'_>,
+    levels: usize,
+    at: usize,
+    place: Place,
+) -> Result<(Item, usize), Refusal>
+    ensures { Says (read_register_item tokens.now levels place at) result }
+{
+    let at = sign(tokens, at, Word::Qreg)?;
+    let (name, at) = label(alloc, tokens, at)?;
+    let (size, at) = optional_size(alloc, tokens, levels, at)?;
+    let at = sign(tokens, at, Word::Semicolon)?;
+    Ok((Item::QubitRegister { place, name, size }, at))
+}

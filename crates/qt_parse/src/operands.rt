@@ -1,0 +1,190 @@
+//! Operands, targets and right sides.
+
+ghost use Rattle.std.specs.Prelude.{◌≡◌, ◌<◌, length, None};
+ghost use Rattle.qt_words.specs.Words as words;
+ghost use Rattle.qt_words.specs.declared.word.Word.TheVariants as w;
+ghost use Rattle.qt_grammar.specs.Sorts.{operand};
+ghost use Rattle.qt_grammar.specs.Language as g;
+ghost use Rattle.qt_grammar.specs.Outcome.{Says};
+ghost use Rattle.qt_expr.specs.Parser.{rest_separated};
+ghost use Rattle.qt_parse.specs.Parser.{read_operand, read_operands, read_any_operands, read_target, read_measured, read_right, read_first_value};
+
+use qt_expr::expression::{all_indexes, expression, index};
+use qt_expr::nesting::Nesting;
+use qt_expr::sign::{behind, label, next_is, sign};
+use qt_grammar::refusal::Refusal;
+use qt_tree::statement::{Operand, Right, Target};
+use qt_words::stream::TokenStream;
+use qt_words::word::Word;
+use sqlite_items::Items;
+use std::alloc::Global;
+
+/// `operand = Name [ "[" index "]" ]`
+#[tactic(auto, unfolding(crate::specs::Parser::read_operand, qt_expr::specs::Parser::read_label, qt_expr::specs::Parser::read_index, qt_expr::specs::Parser::read_sign))]
+pub fn operand(
+    alloc: Global,
+    tokens: &TokenStream<'_>,
+    levels: usize,
+    at: usize,
+) -> Result<(Operand, usize), Refusal>
+    ensures { Says (read_operand tokens.now levels at) result }
+{
+    let (name, at) = label(alloc, tokens, at)?;
+    if !next_is(tokens, at, Word::LeftBracket) {
+        return Ok((Operand { name, index: None }, at));
+    }
+    let at = sign(tokens, at, Word::LeftBracket)?;
+    let (index, at) = index(
+        alloc,
+        tokens,
+        Nesting {
+            levels,
+            outer: None,
+        },
+        at,
+    )?;
+    let at = sign(tokens, at, Word::RightBracket)?;
+    let index = Some(index);
+    Ok((Operand { name, index }, at))
+}
+
+/// Operands with that sign between, at least one.
+#[tactic(auto, unfolding(crate::specs::Parser::read_operand, crate::specs::Parser::read_operands, qt_expr::specs::Parser::rest_separated))]
+pub fn operands(
+    alloc: Global,
+    tokens: &TokenStream<'_>,
+    levels: usize,
+    at: usize,
+    between: Word,
+) -> Result<(Items<Operand>, usize), Refusal>
+    requires { 0 < words.code between }
+    ensures { Says (read_operands tokens.now between levels at) result }
+{
+    let (first, at) = operand(alloc, tokens, levels, at)?;
+    let mut all = Items::new(alloc);
+    all.push(first)?;
+    more_operands(alloc, tokens, levels, at, between, all)
+}
+
+/// The operands behind the first.
+#[tactic(auto, using(qt_expr::proofs::Loops::separated_ends, qt_expr::proofs::Loops::separated_stops, crate::proofs::Lists::operands_go_on))]
+fn more_operands(
+    alloc: Global,
+    tokens: &TokenStream<'_>,
+    levels: usize,
+    at: usize,
+    between: Word,
+    all: Items<Operand>,
+) -> Result<(Items<Operand>, usize), Refusal>
+    requires { 0 < words.code between }
+    ensures { Says (rest_separated tokens.now {s = operand} between g.an_operand levels None (length tokens.now) all at) result }
+{
+    let mut all = all;
+    let mut at = at;
+    'turn: for turn in 0..tokens.len() {
+        if !next_is(tokens, at, between) {
+            return Ok((all, at));
+        }
+        let (next, behind) = operand(alloc, tokens, levels, behind(tokens, at))?;
+        all.push(next)?;
+        at = behind;
+    }
+    Ok((all, at))
+}
+
+/// `[ operands ]`
+#[tactic(auto, unfolding(crate::specs::Parser::read_operands, crate::specs::Parser::read_any_operands))]
+pub fn any_operands(
+    alloc: Global,
+    tokens: &TokenStream<'_>,
+    levels: usize,
+    at: usize,
+) -> Result<(Items<Operand>, usize), Refusal>
+    ensures { Says (read_any_operands tokens.now levels at) result }
+{
+    if !next_is(tokens, at, Word::Name) {
+        return Ok((Items::new(alloc), at));
+    }
+    operands(alloc, tokens, levels, at, Word::Comma)
+}
+
+/// `target = Name { "[" index { "," index } "]" }`
+#[tactic(auto, unfolding(crate::specs::Parser::read_target, qt_expr::specs::Parser::read_label, qt_expr::specs::Parser::read_all_indexes))]
+pub fn target(
+    alloc: Global,
+    tokens: &TokenStream<'_>,
+    levels: usize,
+    at: usize,
+) -> Result<(Target, usize), Refusal>
+    ensures { Says (read_target tokens.now levels at) result }
+{
+    let (name, at) = label(alloc, tokens, at)?;
+    if !next_is(tokens, at, Word::LeftBracket) {
+        let brackets = Items::new(alloc);
+        return Ok((Target { name, brackets }, at));
+    }
+    let (brackets, at) = all_indexes(
+        alloc,
+        tokens,
+        Nesting {
+            levels,
+            outer: None,
+        },
+        at,
+    )?;
+    Ok((Target { name, brackets }, at))
+}
+
+/// `"measure" operand`
+#[tactic(auto, unfolding(crate::specs::Parser::read_measured, crate::specs::Parser::read_operand, qt_expr::specs::Parser::read_sign))]
+pub fn measured(
+    alloc: Global,
+    tokens: &TokenStream<'_>,
+    levels: usize,
+    at: usize,
+) -> Result<(Operand, usize), Refusal>
+    ensures { Says (read_measured tokens.now levels at) result }
+{
+    let at = sign(tokens, at, Word::Measure)?;
+    operand(alloc, tokens, levels, at)
+}
+
+/// `right = "measure" operand | expr`
+#[tactic(auto, unfolding(crate::specs::Parser::read_right, crate::specs::Parser::read_measured, qt_expr::specs::Parser::read_expression))]
+pub fn right(
+    alloc: Global,
+    tokens: &TokenStream<'_>,
+    levels: usize,
+    at: usize,
+) -> Result<(Right, usize), Refusal>
+    ensures { Says (read_right tokens.now levels at) result }
+{
+    if next_is(tokens, at, Word::Measure) {
+        let (qubits, at) = measured(alloc, tokens, levels, at)?;
+        return Ok((Right::Measure { qubits }, at));
+    }
+    let (value, at) = expression(
+        alloc,
+        tokens,
+        Nesting {
+            levels,
+            outer: None,
+        },
+        at,
+    )?;
+    Ok((Right::Value { value }, at))
+}
+
+/// `"=" right`
+#[tactic(auto, unfolding(crate::specs::Parser::read_first_value, crate::specs::Parser::read_right, qt_expr::specs::Parser::read_sign))]
+pub fn first_value(
+    alloc: Global,
+    tokens: &TokenStream<'_>,
+    levels: usize,
+    at: usize,
+) -> Result<(Right, usize), Refusal>
+    ensures { Says (read_first_value tokens.now levels at) result }
+{
+    let at = sign(tokens, at, Word::Assign)?;
+    right(alloc, tokens, levels, at)
+}

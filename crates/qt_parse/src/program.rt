@@ -1,0 +1,176 @@
+//! Programs.
+
+ghost use Rattle.std.specs.Prelude.{◌≡◌, length, None};
+ghost use Rattle.qt_grammar.specs.Sorts.{item};
+ghost use Rattle.qt_grammar.specs.Language as g;
+ghost use Rattle.qt_grammar.specs.Outcome.{Says, Tells};
+ghost use Rattle.qt_expr.specs.Parser.{rest_some};
+ghost use Rattle.qt_parse.specs.Parser.{read_statement_item, read_global, read_items, read_version_number, read_version, read_any_version, read_whole};
+
+use crate::arrays::array_item;
+use crate::bodies::statement_form;
+use crate::definitions::{definition, gate_item};
+use crate::items::{include, input, output, qubit_item, register_item};
+use crate::lookahead::begins_item;
+use qt_expr::sign::{next_is, sign};
+use qt_grammar::refusal::Refusal;
+use qt_tree::label::Label;
+use qt_tree::place::Place;
+use qt_tree::program::{Item, Program, Version, VersionNumber};
+use qt_tree::statement::Statement;
+use qt_words::stream::TokenStream;
+use qt_words::word::Word;
+use sqlite_items::Items;
+use std::alloc::Global;
+
+/// A statement as an item.
+#[tactic(auto, unfolding(crate::specs::Parser::read_statement_item, crate::specs::Parser::read_statement_form))]
+fn statement_item(
+    alloc: Global,
+    tokens: &TokenStream<'_>,
+    levels: usize,
+    at: usize,
+    place: Place,
+) -> Result<(Item, usize), Refusal>
+    ensures { Says (read_statement_item tokens.now levels place at) result }
+{
+    let (form, at) = statement_form(alloc, tokens, levels, at)?;
+    let statement = Statement { place, form };
+    Ok((Item::Statement { statement }, at))
+}
+
+/// `global = include | io | qubits | arrays | gate | def | statement`
+#[tactic(auto, using(crate::proofs::Tails::global_is))]
+fn global(
+    alloc: Global,
+    tokens: &TokenStream<'_>,
+    levels: usize,
+    at: usize,
+) -> Result<(Item, usize), Refusal>
+    ensures { Says (read_global tokens.now levels at) result }
+{
+    let place = tokens.place(at);
+    match tokens.word(at) {
+        Word::Include => include(alloc, tokens, at, place),
+        Word::Input => input(alloc, tokens, levels, at, place),
+        Word::Output => output(alloc, tokens, levels, at, place),
+        Word::Qubit => qubit_item(alloc, tokens, levels, at, place),
+        Word::Qreg => register_item(alloc, tokens, levels, at, place),
+        Word::Array => array_item(alloc, tokens, levels, at, place),
+        Word::Gate => gate_item(alloc, tokens, levels, at, place),
+        Word::Def => definition(alloc, tokens, levels, at, place),
+        _ => statement_item(alloc, tokens, levels, at, place),
+    }
+}
+
+/// `{ global }`
+#[tactic(auto, using(crate::proofs::Lists::items_are, crate::proofs::Lists::items_are_none))]
+fn items(
+    alloc: Global,
+    tokens: &TokenStream<'_>,
+    levels: usize,
+    at: usize,
+) -> Result<(Items<Item>, usize), Refusal>
+    ensures { Says (read_items tokens.now levels at) result }
+{
+    let mut all = Items::new(alloc);
+    if !begins_item(tokens, at) {
+        return Ok((all, at));
+    }
+    let (first, at) = global(alloc, tokens, levels, at)?;
+    all.push(first)?;
+    more_items(alloc, tokens, levels, at, all)
+}
+
+/// The items behind the first.
+#[tactic(auto, using(qt_expr::proofs::Loops::some_ends, qt_expr::proofs::Loops::some_stops, crate::proofs::Lists::items_go_on))]
+fn more_items(
+    alloc: Global,
+    tokens: &TokenStream<'_>,
+    levels: usize,
+    at: usize,
+    all: Items<Item>,
+) -> Result<(Items<Item>, usize), Refusal>
+    ensures { Says (rest_some tokens.now {s = item} g.global levels None (length tokens.now) all at) result }
+{
+    let mut all = all;
+    let mut at = at;
+    'turn: for turn in 0..tokens.len() {
+        if !begins_item(tokens, at) {
+            return Ok((all, at));
+        }
+        let (next, behind) = global(alloc, tokens, levels, at)?;
+        all.push(next)?;
+        at = behind;
+    }
+    Ok((all, at))
+}
+
+/// `Integer | Decimal`, behind the word of a version.
+#[tactic(auto, unfolding(crate::specs::Parser::read_version_number, qt_expr::specs::Parser::read_sign))]
+fn version_number(
+    alloc: Global,
+    tokens: &TokenStream<'_>,
+    at: usize,
+) -> Result<(VersionNumber, usize), Refusal>
+    ensures { Says (read_version_number tokens.now at) result }
+{
+    if next_is(tokens, at, Word::Integer) {
+        let value = tokens.integer(at);
+        let at = sign(tokens, at, Word::Integer)?;
+        return Ok((VersionNumber::Integer { value }, at));
+    }
+    let number = at;
+    let at = sign(tokens, at, Word::Decimal)?;
+    let text = Label::new(alloc, tokens.spelling(number))?;
+    Ok((VersionNumber::Decimal { text }, at))
+}
+
+/// `version = "OPENQASM" ( Integer | Decimal ) ";"`
+#[tactic(auto, unfolding(crate::specs::Parser::read_version, crate::specs::Parser::read_version_number, qt_expr::specs::Parser::read_sign))]
+fn version(alloc: Global, tokens: &TokenStream<'_>, at: usize) -> Result<(Version, usize), Refusal>
+    ensures { Says (read_version tokens.now at) result }
+{
+    let place = tokens.place(at);
+    let at = sign(tokens, at, Word::OpenQasm)?;
+    let (number, at) = version_number(alloc, tokens, at)?;
+    let at = sign(tokens, at, Word::Semicolon)?;
+    Ok((Version { place, number }, at))
+}
+
+/// `[ version ]`
+#[tactic(auto, unfolding(crate::specs::Parser::read_any_version, crate::specs::Parser::read_version))]
+fn any_version(
+    alloc: Global,
+    tokens: &TokenStream<'_>,
+    at: usize,
+) -> Result<(Option<Version>, usize), Refusal>
+    ensures { Says (read_any_version tokens.now at) result }
+{
+    if !next_is(tokens, at, Word::OpenQasm) {
+        return Ok((None, at));
+    }
+    let (version, at) = version(alloc, tokens, at)?;
+    Ok((Some(version), at))
+}
+
+/// How deep tokens may stand.
+const LEVELS: usize = 64;
+
+/// `program = [ version ] { global }`, and then the end of the text.
+#[tactic(auto, unfolding(crate::specs::Parser::read_whole, crate::specs::Parser::read_items, crate::specs::Parser::read_any_version))]
+pub fn whole(alloc: Global, tokens: &TokenStream<'_>) -> Result<Program, Refusal>
+    ensures { Tells (read_whole tokens.now 64 0) result }
+{
+    let (version, at) = any_version(alloc, tokens, 0)?;
+    let (items, at) = items(alloc, tokens, LEVELS, at)?;
+    if !next_is(tokens, at, Word::End) {
+        return Err(Refusal::Syntax(at));
+    }
+    let end = tokens.place(at);
+    Ok(Program {
+        version,
+        items,
+        end,
+    })
+}

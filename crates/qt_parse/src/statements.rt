@@ -1,0 +1,334 @@
+//! Statements of one line that begin with a word of their own.
+
+ghost use Rattle.std.specs.Prelude.{◌≡◌};
+ghost use Rattle.qt_words.specs.declared.word.Word.TheVariants as w;
+ghost use Rattle.qt_tree.specs.declared.statement.StatementForm.TheVariants as s;
+ghost use Rattle.qt_grammar.specs.Outcome.{Says};
+ghost use Rattle.qt_parse.specs.Parser.{read_declaration, read_optional_value, read_bit_register, read_optional_size, read_constant, read_alias, read_gate_statement, read_unnamed_call, read_measured_to, read_measurement, read_reset, read_barrier, read_word_alone, read_return, read_optional_right};
+
+use crate::calls::{begins_modifier, modified_call, phase_call};
+use crate::lookahead::begins_right;
+use crate::operands::{any_operands, first_value, measured, operand, operands, right, target};
+use qt_expr::expression::{expression, scalar, size};
+use qt_expr::nesting::Nesting;
+use qt_expr::sign::{label, next_is, sign};
+use qt_grammar::refusal::Refusal;
+use qt_tree::expression::Expr;
+use qt_tree::statement::{GateCall, Right, StatementForm, Target};
+use qt_words::stream::TokenStream;
+use qt_words::word::Word;
+use std::alloc::Global;
+
+/// `[ "=" right ]`
+#[tactic(auto, unfolding(crate::specs::Parser::read_optional_value, crate::specs::Parser::read_first_value))]
+fn optional_value(
+    alloc: Global,
+    tokens: &TokenStream<'_>,
+    levels: usize,
+    at: usize,
+) -> Result<(Option<Right>, usize), Refusal>
+    ensures { Says (read_optional_value tokens.now levels at) result }
+{
+    if !next_is(tokens, at, Word::Assign) {
+        return Ok((None, at));
+    }
+    let (value, at) = first_value(alloc, tokens, levels, at)?;
+    Ok((Some(value), at))
+}
+
+/// `scalar Name [ "=" right ] ";"`
+#[tactic(auto, unfolding(crate::specs::Parser::read_declaration, crate::specs::Parser::read_optional_value, qt_expr::specs::Parser::read_scalar, qt_expr::specs::Parser::read_label, qt_expr::specs::Parser::read_sign))]
+pub fn declaration(
+    alloc: Global,
+    tokens: &TokenStream<'_>,
+    levels: usize,
+    at: usize,
+) -> Result<(StatementForm, usize), Refusal>
+    ensures { Says (read_declaration tokens.now levels at) result }
+{
+    let (scalar, at) = scalar(
+        alloc,
+        tokens,
+        Nesting {
+            levels,
+            outer: None,
+        },
+        at,
+    )?;
+    let (name, at) = label(alloc, tokens, at)?;
+    let (value, at) = optional_value(alloc, tokens, levels, at)?;
+    let at = sign(tokens, at, Word::Semicolon)?;
+    let form = StatementForm::Declaration {
+        scalar,
+        name,
+        value,
+    };
+    Ok((form, at))
+}
+
+/// `[ "[" expr "]" ]`
+#[tactic(auto, unfolding(crate::specs::Parser::read_optional_size, qt_expr::specs::Parser::read_size))]
+pub fn optional_size(
+    alloc: Global,
+    tokens: &TokenStream<'_>,
+    levels: usize,
+    at: usize,
+) -> Result<(Option<Expr>, usize), Refusal>
+    ensures { Says (read_optional_size tokens.now levels at) result }
+{
+    if !next_is(tokens, at, Word::LeftBracket) {
+        return Ok((None, at));
+    }
+    let (size, at) = size(
+        alloc,
+        tokens,
+        Nesting {
+            levels,
+            outer: None,
+        },
+        at,
+    )?;
+    Ok((Some(size), at))
+}
+
+/// `"creg" Name [ "[" expr "]" ] ";"`
+#[tactic(auto, unfolding(crate::specs::Parser::read_bit_register, crate::specs::Parser::read_optional_size, qt_expr::specs::Parser::read_label, qt_expr::specs::Parser::read_sign))]
+pub fn bit_register(
+    alloc: Global,
+    tokens: &TokenStream<'_>,
+    levels: usize,
+    at: usize,
+) -> Result<(StatementForm, usize), Refusal>
+    ensures { Says (read_bit_register tokens.now levels at) result }
+{
+    let at = sign(tokens, at, Word::Creg)?;
+    let (name, at) = label(alloc, tokens, at)?;
+    let (size, at) = optional_size(alloc, tokens, levels, at)?;
+    let at = sign(tokens, at, Word::Semicolon)?;
+    Ok((StatementForm::BitRegister { name, size }, at))
+}
+
+/// `"const" scalar Name "=" expr ";"`
+#[tactic(auto, unfolding(crate::specs::Parser::read_constant, qt_expr::specs::Parser::read_scalar, qt_expr::specs::Parser::read_label, qt_expr::specs::Parser::read_expression, qt_expr::specs::Parser::read_sign))]
+pub fn constant(
+    alloc: Global,
+    tokens: &TokenStream<'_>,
+    levels: usize,
+    at: usize,
+) -> Result<(StatementForm, usize), Refusal>
+    ensures { Says (read_constant tokens.now levels at) result }
+{
+    let at = sign(tokens, at, Word::Const)?;
+    let (scalar, at) = scalar(
+        alloc,
+        tokens,
+        Nesting {
+            levels,
+            outer: None,
+        },
+        at,
+    )?;
+    let (name, at) = label(alloc, tokens, at)?;
+    let at = sign(tokens, at, Word::Assign)?;
+    let (value, at) = expression(
+        alloc,
+        tokens,
+        Nesting {
+            levels,
+            outer: None,
+        },
+        at,
+    )?;
+    let at = sign(tokens, at, Word::Semicolon)?;
+    let form = StatementForm::Constant {
+        scalar,
+        name,
+        value,
+    };
+    Ok((form, at))
+}
+
+/// `"let" Name "=" operand { "++" operand } ";"`
+#[tactic(auto, unfolding(crate::specs::Parser::read_alias, crate::specs::Parser::read_operands, qt_expr::specs::Parser::read_label, qt_expr::specs::Parser::read_sign))]
+pub fn alias(
+    alloc: Global,
+    tokens: &TokenStream<'_>,
+    levels: usize,
+    at: usize,
+) -> Result<(StatementForm, usize), Refusal>
+    ensures { Says (read_alias tokens.now levels at) result }
+{
+    let at = sign(tokens, at, Word::Let)?;
+    let (name, at) = label(alloc, tokens, at)?;
+    let at = sign(tokens, at, Word::Assign)?;
+    let (parts, at) = operands(alloc, tokens, levels, at, Word::PlusPlus)?;
+    let at = sign(tokens, at, Word::Semicolon)?;
+    Ok((StatementForm::Alias { name, parts }, at))
+}
+
+/// A gate call that doesn't begin with a name: one with modifiers, or of `gphase`.
+#[tactic(auto, unfolding(crate::specs::Parser::read_unnamed_call, crate::specs::Parser::read_modified_call, crate::specs::Parser::read_phase_call))]
+fn unnamed_call(
+    alloc: Global,
+    tokens: &TokenStream<'_>,
+    levels: usize,
+    at: usize,
+) -> Result<(GateCall, usize), Refusal>
+    ensures { Says (read_unnamed_call tokens.now levels at) result }
+{
+    if begins_modifier(tokens, at) {
+        modified_call(alloc, tokens, levels, at)
+    } else {
+        phase_call(alloc, tokens, levels, at)
+    }
+}
+
+/// A statement that is such a gate call.
+#[tactic(auto, unfolding(crate::specs::Parser::read_gate_statement, crate::specs::Parser::read_unnamed_call, qt_expr::specs::Parser::read_sign))]
+pub fn gate_statement(
+    alloc: Global,
+    tokens: &TokenStream<'_>,
+    levels: usize,
+    at: usize,
+) -> Result<(StatementForm, usize), Refusal>
+    ensures { Says (read_gate_statement tokens.now levels at) result }
+{
+    let (call, at) = unnamed_call(alloc, tokens, levels, at)?;
+    let at = sign(tokens, at, Word::Semicolon)?;
+    Ok((StatementForm::Gate { call }, at))
+}
+
+/// `[ "->" target ]`
+#[tactic(auto, unfolding(crate::specs::Parser::read_measured_to, crate::specs::Parser::read_target, qt_expr::specs::Parser::read_sign))]
+fn measured_to(
+    alloc: Global,
+    tokens: &TokenStream<'_>,
+    levels: usize,
+    at: usize,
+) -> Result<(Option<Target>, usize), Refusal>
+    ensures { Says (read_measured_to tokens.now levels at) result }
+{
+    if !next_is(tokens, at, Word::Arrow) {
+        return Ok((None, at));
+    }
+    let at = sign(tokens, at, Word::Arrow)?;
+    let (target, at) = target(alloc, tokens, levels, at)?;
+    Ok((Some(target), at))
+}
+
+/// `"measure" operand [ "->" target ] ";"`
+#[tactic(auto, unfolding(crate::specs::Parser::read_measurement, crate::specs::Parser::read_measured, crate::specs::Parser::read_measured_to, qt_expr::specs::Parser::read_sign))]
+pub fn measurement(
+    alloc: Global,
+    tokens: &TokenStream<'_>,
+    levels: usize,
+    at: usize,
+) -> Result<(StatementForm, usize), Refusal>
+    ensures { Says (read_measurement tokens.now levels at) result }
+{
+    let (qubits, at) = measured(alloc, tokens, levels, at)?;
+    let (target, at) = measured_to(alloc, tokens, levels, at)?;
+    let at = sign(tokens, at, Word::Semicolon)?;
+    Ok((StatementForm::Measure { qubits, target }, at))
+}
+
+/// `"reset" operand ";"`
+#[tactic(auto, unfolding(crate::specs::Parser::read_reset, crate::specs::Parser::read_operand, qt_expr::specs::Parser::read_sign))]
+pub fn reset(
+    alloc: Global,
+    tokens: &TokenStream<'_>,
+    levels: usize,
+    at: usize,
+) -> Result<(StatementForm, usize), Refusal>
+    ensures { Says (read_reset tokens.now levels at) result }
+{
+    let at = sign(tokens, at, Word::Reset)?;
+    let (qubits, at) = operand(alloc, tokens, levels, at)?;
+    let at = sign(tokens, at, Word::Semicolon)?;
+    Ok((StatementForm::Reset { qubits }, at))
+}
+
+/// `"barrier" [ operands ] ";"`
+#[tactic(auto, unfolding(crate::specs::Parser::read_barrier, crate::specs::Parser::read_any_operands, qt_expr::specs::Parser::read_sign))]
+pub fn barrier(
+    alloc: Global,
+    tokens: &TokenStream<'_>,
+    levels: usize,
+    at: usize,
+) -> Result<(StatementForm, usize), Refusal>
+    ensures { Says (read_barrier tokens.now levels at) result }
+{
+    let at = sign(tokens, at, Word::Barrier)?;
+    let (qubits, at) = any_operands(alloc, tokens, levels, at)?;
+    let at = sign(tokens, at, Word::Semicolon)?;
+    Ok((StatementForm::Barrier { qubits }, at))
+}
+
+/// `[ right ]`
+#[tactic(auto, unfolding(crate::specs::Parser::read_optional_right, crate::specs::Parser::read_right))]
+fn optional_right(
+    alloc: Global,
+    tokens: &TokenStream<'_>,
+    levels: usize,
+    at: usize,
+) -> Result<(Option<Right>, usize), Refusal>
+    ensures { Says (read_optional_right tokens.now levels at) result }
+{
+    if !begins_right(tokens, at) {
+        return Ok((None, at));
+    }
+    let (value, at) = right(alloc, tokens, levels, at)?;
+    Ok((Some(value), at))
+}
+
+/// `"return" [ right ] ";"`
+#[tactic(auto, unfolding(crate::specs::Parser::read_return, crate::specs::Parser::read_optional_right, qt_expr::specs::Parser::read_sign))]
+pub fn return_statement(
+    alloc: Global,
+    tokens: &TokenStream<'_>,
+    levels: usize,
+    at: usize,
+) -> Result<(StatementForm, usize), Refusal>
+    ensures { Says (read_return tokens.now levels at) result }
+{
+    let at = sign(tokens, at, Word::Return)?;
+    let (value, at) = optional_right(alloc, tokens, levels, at)?;
+    let at = sign(tokens, at, Word::Semicolon)?;
+    Ok((StatementForm::Return { value }, at))
+}
+
+/// `"break" ";"`
+#[tactic(auto, unfolding(crate::specs::Parser::read_word_alone, qt_expr::specs::Parser::read_sign))]
+pub fn break_statement(
+    tokens: &TokenStream<'_>,
+    at: usize,
+) -> Result<(StatementForm, usize), Refusal>
+    ensures { Says (read_word_alone tokens.now w.Break s.Break at) result }
+{
+    let at = sign(tokens, at, Word::Break)?;
+    let at = sign(tokens, at, Word::Semicolon)?;
+    Ok((StatementForm::Break, at))
+}
+
+/// `"continue" ";"`
+#[tactic(auto, unfolding(crate::specs::Parser::read_word_alone, qt_expr::specs::Parser::read_sign))]
+pub fn continue_statement(
+    tokens: &TokenStream<'_>,
+    at: usize,
+) -> Result<(StatementForm, usize), Refusal>
+    ensures { Says (read_word_alone tokens.now w.Continue s.Continue at) result }
+{
+    let at = sign(tokens, at, Word::Continue)?;
+    let at = sign(tokens, at, Word::Semicolon)?;
+    Ok((StatementForm::Continue, at))
+}
+
+/// `"end" ";"`
+#[tactic(auto, unfolding(crate::specs::Parser::read_word_alone, qt_expr::specs::Parser::read_sign))]
+pub fn end_statement(tokens: &TokenStream<'_>, at: usize) -> Result<(StatementForm, usize), Refusal>
+    ensures { Says (read_word_alone tokens.now w.EndWord s.End at) result }
+{
+    let at = sign(tokens, at, Word::EndWord)?;
+    let at = sign(tokens, at, Word::Semicolon)?;
+    Ok((StatementForm::End, at))
+}
