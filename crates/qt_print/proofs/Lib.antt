@@ -1,0 +1,10 @@
+pub mod Puts
+pub mod Equations
+pub mod Lines
+pub mod Items
+pub mod Texts
+pub mod Moved
+pub mod Lexing
+pub mod Numerals
+pub mod Leads
+pub mod Laid

@@ -1,0 +1,37 @@
+-- What is put on a page is the text of the words and the lines.
+use Rattle.std.proofs.Common.{◌≡◌, ℕ, ◌+◌, List, [], ◌∷◌, ◌++◌, map, Option, Some, None, refl, ap, sym, ◌∙◌, append_assoc}
+use Rattle.qt_tree.specs.declared.program.Program.{Program}
+use Rattle.qt_print.specs.declared.role.Role.{Role}
+use Rattle.qt_print.specs.Words.{Word}
+use Rattle.qt_print.specs.Statements.{Line, all_lines}
+use Rattle.qt_print.specs.Programs.{first_lines, item_lines, program_lines}
+use Rattle.qt_print.specs.Text.{margin, gap, spread, line_text, lines_text, canonical}
+use Rattle.qt_print.specs.Page.{Sheet, blank, put_on, puts, begun, ended, put_line, put_lines}
+use Rattle.qt_print.proofs.Lines.{lines_both}
+
+nothing_behind : (xs : List ℕ) → xs ≡ xs ++ []
+nothing_behind [] = refl
+nothing_behind (x ∷ xs) = ap (λ t. x ∷ t) (nothing_behind xs)
+
+puts_text : (sheet : Sheet) (words : List Word) → (puts sheet words).text ≡ sheet.text ++ spread sheet.last words
+puts_text sheet [] = nothing_behind sheet.text
+puts_text sheet (word ∷ words) =
+    puts_text (put_on sheet word) words
+    ∙ (append_assoc sheet.text (gap sheet.last word.role ++ word.text) (spread (Some word.role) words)
+    ∙ ap (λ t. sheet.text ++ t) (append_assoc (gap sheet.last word.role) word.text (spread (Some word.role) words)))
+
+put_line_text : (sheet : Sheet) (depth : ℕ) (words : List Word) → (put_line sheet depth words).text ≡ sheet.text ++ line_text depth words
+put_line_text sheet depth words =
+    ap (λ t. t ++ 10 ∷ []) (puts_text (begun sheet depth) words)
+    ∙ (append_assoc (sheet.text ++ margin depth) (spread None words) (10 ∷ [])
+    ∙ append_assoc sheet.text (margin depth) (spread None words ++ 10 ∷ []))
+
+put_lines_text : (sheet : Sheet) (depth : ℕ) (lines : List Line) → (put_lines sheet depth lines).text ≡ sheet.text ++ lines_text depth lines
+put_lines_text sheet depth [] = nothing_behind sheet.text
+put_lines_text sheet depth (line ∷ lines) =
+    put_lines_text (put_line sheet (depth + line.depth) line.words) depth lines
+    ∙ (ap (λ t. t ++ lines_text depth lines) (put_line_text sheet (depth + line.depth) line.words)
+    ∙ append_assoc sheet.text (line_text (depth + line.depth) line.words) (lines_text depth lines))
+
+pub printed : (program : Program) → (put_lines (put_lines blank 0 (first_lines program.version)) 0 (all_lines (map item_lines program.items))).text ≡ canonical program
+printed program = ap (λ t. t.text) (sym (lines_both blank 0 (first_lines program.version) (all_lines (map item_lines program.items)))) ∙ put_lines_text blank 0 (program_lines program)

@@ -1,0 +1,9 @@
+pub mod Spacing
+pub mod Literals
+pub mod Words
+pub mod Expressions
+pub mod Statements
+pub mod Programs
+pub mod Text
+pub mod Page
+pub mod Tokens

@@ -1,0 +1,289 @@
+//! Expressions, types, indexes and ranges.
+
+ghost use Rattle.std.specs.Prelude.{◌≡◌, map, OnOk};
+ghost use Rattle.qt_print.specs.Words as words;
+ghost use Rattle.qt_print.specs.Expressions as spec;
+ghost use Rattle.qt_print.specs.Page.{sheet_of, puts};
+
+use crate::page::Page;
+use crate::role::Role;
+use qt_tree::expression::{BinaryOp, Expr, Index, Range, Scalar, UnaryOperator};
+use sqlite_items::{Boxed, Items};
+use std::alloc::AllocError;
+
+/// How a binary operator is written.
+pub(crate) fn operator_text(operator: BinaryOp) -> &'static str
+    ensures { result.now ≡ spec.operator_text operator }
+{
+    match operator {
+        BinaryOp::LogicalOr => "||",
+        BinaryOp::LogicalAnd => "&&",
+        BinaryOp::Or => "|",
+        BinaryOp::Xor => "^",
+        BinaryOp::And => "&",
+        BinaryOp::Eq => "==",
+        BinaryOp::Ne => "!=",
+        BinaryOp::Lt => "<",
+        BinaryOp::Le => "<=",
+        BinaryOp::Gt => ">",
+        BinaryOp::Ge => ">=",
+        BinaryOp::Shl => "<<",
+        BinaryOp::Shr => ">>",
+        BinaryOp::Add => "+",
+        BinaryOp::Sub => "-",
+        BinaryOp::Mul => "*",
+        BinaryOp::Div => "/",
+        BinaryOp::Rem => "%",
+        BinaryOp::Pow => "**",
+    }
+}
+
+/// How a unary operator is written.
+fn sign_text(operator: UnaryOperator) -> &'static str
+    ensures { result.now ≡ spec.sign_text operator }
+{
+    match operator {
+        UnaryOperator::Not => "!",
+        UnaryOperator::Turn => "~",
+        UnaryOperator::Neg => "-",
+    }
+}
+
+/// How a truth value is written.
+fn truth_text(value: bool) -> &'static str
+    ensures { result.now ≡ spec.truth_text value }
+{
+    if value { "true" } else { "false" }
+}
+
+/// An expression.
+#[tactic(auto, using(crate::proofs::Equations::expressions))]
+#[cycle(expression)]
+pub(crate) fn put_expr(page: &mut Page, expr: &Expr) -> Result<(), AllocError>
+    ensures { OnOk result (sheet_of page.new ≡ puts (sheet_of page.old) (spec.expr_words expr.now)) }
+{
+    match expr {
+        Expr::Whole { value } => page.put_number(*value),
+        Expr::BitText { value, length } => page.put_bits(*value, *length),
+        Expr::Pi => page.put(Role::Constant, "pi"),
+        Expr::Tau => page.put(Role::Constant, "tau"),
+        Expr::Bool { value } => page.put(Role::Keyword, truth_text(*value)),
+        Expr::Parenthesized { inner } => put_parenthesized(page, inner.get()),
+        Expr::Name { name, brackets } => {
+            page.put(Role::Name, name.text())?;
+            put_brackets(page, brackets.as_slice())
+        }
+        Expr::Call { name, arguments } => {
+            page.put(Role::Name, name.text())?;
+            put_arguments(page, arguments.as_slice())
+        }
+        Expr::Cast { to, operand } => {
+            put_scalar(page, to)?;
+            put_parenthesized(page, operand.get())
+        }
+        Expr::SizeOf { name, dimension } => {
+            page.put(Role::Keyword, "sizeof")?;
+            page.put(Role::Opening, "(")?;
+            page.put(Role::Name, name.text())?;
+            put_dimension(page, dimension)?;
+            page.put(Role::ClosingParenthesis, ")")
+        }
+        Expr::Unary { operator, operand } => {
+            page.put(Role::Sign, sign_text(*operator))?;
+            put_expr(page, operand.get())
+        }
+        Expr::Binary {
+            operator,
+            left,
+            right,
+        } => {
+            put_expr(page, left.get())?;
+            page.put(Role::Operator, operator_text(*operator))?;
+            put_expr(page, right.get())
+        }
+    }
+}
+
+/// An expression in parentheses.
+#[tactic(auto, using(crate::proofs::Puts::puts_both))]
+#[cycle(expression)]
+pub(crate) fn put_parenthesized(page: &mut Page, inner: &Expr) -> Result<(), AllocError>
+    ensures { OnOk result (sheet_of page.new ≡ puts (sheet_of page.old) (words.parenthesized (spec.expr_words inner.now))) }
+{
+    page.put(Role::Opening, "(")?;
+    put_expr(page, inner)?;
+    page.put(Role::ClosingParenthesis, ")")
+}
+
+/// Expressions with commas between, in parentheses.
+#[tactic(auto, using(crate::proofs::Puts::puts_both))]
+#[cycle(expression)]
+pub(crate) fn put_arguments(page: &mut Page, arguments: &[Expr]) -> Result<(), AllocError>
+    ensures { OnOk result (sheet_of page.new ≡ puts (sheet_of page.old) (words.parenthesized (spec.list_words arguments.now))) }
+{
+    page.put(Role::Opening, "(")?;
+    put_list(page, arguments)?;
+    page.put(Role::ClosingParenthesis, ")")
+}
+
+/// Expressions with commas between.
+#[cycle(expression)]
+pub(crate) fn put_list(page: &mut Page, all: &[Expr]) -> Result<(), AllocError>
+    ensures { OnOk result (sheet_of page.new ≡ puts (sheet_of page.old) (spec.list_words all.now)) }
+{
+    let mut first = true;
+    for expr in all {
+        if !first {
+            page.put(Role::Comma, ",")?;
+        }
+        put_expr(page, expr)?;
+        first = false;
+    }
+    Ok(())
+}
+
+/// The second part of `sizeof`.
+#[cycle(expression)]
+fn put_dimension(page: &mut Page, dimension: &Option<Boxed<Expr>>) -> Result<(), AllocError>
+    ensures { OnOk result (sheet_of page.new ≡ puts (sheet_of page.old) (spec.second_words dimension.now)) }
+{
+    match dimension {
+        None => Ok(()),
+        Some(dimension) => {
+            page.put(Role::Comma, ",")?;
+            put_expr(page, dimension.get())
+        }
+    }
+}
+
+/// The indexes of each pair of brackets.
+#[cycle(expression)]
+pub(crate) fn put_brackets(page: &mut Page, brackets: &[Items<Index>]) -> Result<(), AllocError>
+    ensures { OnOk result (sheet_of page.new ≡ puts (sheet_of page.old) (spec.brackets_words brackets.now)) }
+{
+    for indexes in brackets {
+        put_bracket(page, indexes.as_slice())?;
+    }
+    Ok(())
+}
+
+/// Indexes with commas between, in brackets.
+#[tactic(auto, using(crate::proofs::Puts::puts_both))]
+#[cycle(expression)]
+fn put_bracket(page: &mut Page, indexes: &[Index]) -> Result<(), AllocError>
+    ensures { OnOk result (sheet_of page.new ≡ puts (sheet_of page.old) (spec.bracket_words indexes.now)) }
+{
+    page.put(Role::Opening, "[")?;
+    put_indexes(page, indexes)?;
+    page.put(Role::ClosingBracket, "]")
+}
+
+/// Indexes with commas between.
+#[cycle(expression)]
+fn put_indexes(page: &mut Page, indexes: &[Index]) -> Result<(), AllocError>
+    ensures { OnOk result (sheet_of page.new ≡ puts (sheet_of page.old) (words.separated words.comma (map spec.index_words indexes.now))) }
+{
+    let mut first = true;
+    for index in indexes {
+        if !first {
+            page.put(Role::Comma, ",")?;
+        }
+        put_index(page, index)?;
+        first = false;
+    }
+    Ok(())
+}
+
+/// One index.
+#[tactic(auto, using(crate::proofs::Equations::indexes))]
+#[cycle(expression)]
+pub(crate) fn put_index(page: &mut Page, index: &Index) -> Result<(), AllocError>
+    ensures { OnOk result (sheet_of page.new ≡ puts (sheet_of page.old) (spec.index_words index.now)) }
+{
+    match index {
+        Index::At { place } => put_expr(page, place),
+        Index::Range { range } => put_range(page, range),
+        Index::Set { places } => put_set(page, places.as_slice()),
+    }
+}
+
+/// Expressions with commas between, in braces.
+#[tactic(auto, using(crate::proofs::Puts::puts_both))]
+#[cycle(expression)]
+pub(crate) fn put_set(page: &mut Page, members: &[Expr]) -> Result<(), AllocError>
+    ensures { OnOk result (sheet_of page.new ≡ puts (sheet_of page.old) (words.braced (spec.list_words members.now))) }
+{
+    page.put(Role::Opening, "{")?;
+    put_list(page, members)?;
+    page.put(Role::ClosingBrace, "}")
+}
+
+/// A range.
+#[tactic(auto, using(crate::proofs::Equations::ranges))]
+#[cycle(expression)]
+pub(crate) fn put_range(page: &mut Page, range: &Range) -> Result<(), AllocError>
+    ensures { OnOk result (sheet_of page.new ≡ puts (sheet_of page.old) (spec.range_words range.now)) }
+{
+    put_part(page, &range.start)?;
+    page.put(Role::Colon, ":")?;
+    put_step(page, &range.step)?;
+    put_part(page, &range.end)
+}
+
+/// The start or the end of a range, where it stands.
+#[cycle(expression)]
+fn put_part(page: &mut Page, part: &Option<Expr>) -> Result<(), AllocError>
+    ensures { OnOk result (sheet_of page.new ≡ puts (sheet_of page.old) (spec.end_words part.now)) }
+{
+    match part {
+        None => Ok(()),
+        Some(part) => put_expr(page, part),
+    }
+}
+
+/// The step of a range and its colon, where it stands.
+#[tactic(auto, using(crate::proofs::Puts::puts_both))]
+#[cycle(expression)]
+fn put_step(page: &mut Page, step: &Option<Expr>) -> Result<(), AllocError>
+    ensures { OnOk result (sheet_of page.new ≡ puts (sheet_of page.old) (spec.step_words step.now)) }
+{
+    match step {
+        None => Ok(()),
+        Some(step) => {
+            put_expr(page, step)?;
+            page.put(Role::Colon, ":")
+        }
+    }
+}
+
+/// A type.
+#[tactic(auto, using(crate::proofs::Equations::scalars))]
+#[cycle(expression)]
+pub(crate) fn put_scalar(page: &mut Page, scalar: &Scalar) -> Result<(), AllocError>
+    ensures { OnOk result (sheet_of page.new ≡ puts (sheet_of page.old) (spec.scalar_words scalar.now)) }
+{
+    match scalar {
+        Scalar::Bool => page.put(Role::Keyword, "bool"),
+        Scalar::Bit { size } => put_sized(page, "bit", size),
+        Scalar::Int { size } => put_sized(page, "int", size),
+        Scalar::Uint { size } => put_sized(page, "uint", size),
+        Scalar::Angle { size } => put_sized(page, "angle", size),
+    }
+}
+
+/// A type's keyword, and its size in brackets where it stands.
+#[tactic(auto, using(crate::proofs::Puts::puts_both))]
+#[cycle(expression)]
+fn put_sized(page: &mut Page, keyword: &str, size: &Option<Boxed<Expr>>) -> Result<(), AllocError>
+    ensures { OnOk result (sheet_of page.new ≡ puts (sheet_of page.old) (spec.type_words keyword.now size.now)) }
+{
+    page.put(Role::Keyword, keyword)?;
+    match size {
+        None => Ok(()),
+        Some(size) => {
+            page.put(Role::Opening, "[")?;
+            put_expr(page, size.get())?;
+            page.put(Role::ClosingBracket, "]")
+        }
+    }
+}

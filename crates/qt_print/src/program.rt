@@ -1,0 +1,382 @@
+//! Programs: the version and the items, one after another.
+
+ghost use Rattle.std.specs.Prelude.{◌≡◌, ◌++◌, map, IfOk, OnOk};
+ghost use Rattle.std.specs.String.{string_bytes};
+ghost use Rattle.qt_print.specs.Words as words;
+ghost use Rattle.qt_print.specs.Expressions as expressions;
+ghost use Rattle.qt_print.specs.Statements as statements;
+ghost use Rattle.qt_print.specs.Programs as spec;
+ghost use Rattle.qt_print.specs.Text.{canonical};
+ghost use Rattle.qt_print.specs.Page as pages;
+ghost use Rattle.qt_print.specs.Page.{sheet_of, puts, put_sentence, put_lines};
+
+use crate::expression::{put_expr, put_scalar};
+use crate::page::Page;
+use crate::role::Role;
+use crate::statement::{
+    close_body, finish, open_body, put_body, put_gate_call, put_register, put_size, put_statement,
+};
+use qt_tree::expression::{Expr, Scalar};
+use qt_tree::label::Label;
+use qt_tree::program::{
+    ArrayItem, Definition, GateForm, GateItem, GateStatement, Item, ListItem, Parameter, Program,
+    Version, VersionNumber,
+};
+use sqlite_items::Items;
+use std::alloc::{AllocError, Global};
+
+/// The canonical text of a program. A program without version and items has the empty text.
+#[tactic(auto, using(crate::proofs::Texts::printed))]
+pub fn print(alloc: Global, program: &Program) -> Result<String, AllocError>
+    ensures { IfOk result (λ text. string_bytes text ≡ canonical program.now) }
+{
+    let mut page = Page::new(alloc);
+    put_version(&mut page, &program.version)?;
+    put_items(&mut page, program.items.as_slice())?;
+    Ok(page.into_text())
+}
+
+/// The version, where it stands.
+#[tactic(auto, using(crate::proofs::Lines::sentence_put, crate::proofs::Puts::puts_both))]
+fn put_version(page: &mut Page, version: &Option<Version>) -> Result<(), AllocError>
+    ensures { OnOk result (sheet_of page.new ≡ put_lines (sheet_of page.old) 0 (spec.first_lines version.now)) }
+{
+    match version {
+        None => Ok(()),
+        Some(version) => {
+            page.begin(0)?;
+            page.put(Role::Keyword, "OPENQASM")?;
+            put_version_number(page, &version.number)?;
+            finish(page)
+        }
+    }
+}
+
+/// What a version names.
+fn put_version_number(page: &mut Page, number: &VersionNumber) -> Result<(), AllocError>
+    ensures { OnOk result (sheet_of page.new ≡ pages.put_on (sheet_of page.old) (spec.number_word number.now)) }
+{
+    match number {
+        VersionNumber::Integer { value } => page.put_number(*value),
+        VersionNumber::Decimal { text } => page.put(Role::Decimal, text.text()),
+    }
+}
+
+/// The items of a program.
+fn put_items(page: &mut Page, items: &[Item]) -> Result<(), AllocError>
+    ensures { OnOk result (sheet_of page.new ≡ put_lines (sheet_of page.old) 0 (statements.all_lines (map spec.item_lines items.now))) }
+{
+    for item in items {
+        put_item(page, item)?;
+    }
+    Ok(())
+}
+
+/// One item.
+#[tactic(auto, using(crate::proofs::Lines::sentence_put, crate::proofs::Lines::block_put, crate::proofs::Puts::puts_both))]
+fn put_item(page: &mut Page, item: &Item) -> Result<(), AllocError>
+    ensures { OnOk result (sheet_of page.new ≡ put_lines (sheet_of page.old) 0 (spec.item_lines item.now)) }
+{
+    match item {
+        Item::Include { name, .. } => put_include(page, name),
+        Item::Input { scalar, name, .. } => put_typed(page, "input", scalar, name),
+        Item::Output { scalar, name, .. } => put_typed(page, "output", scalar, name),
+        Item::Qubit { size, name, .. } => put_qubit_item(page, size, name),
+        Item::QubitRegister { name, size, .. } => put_qubit_register(page, name, size),
+        Item::Array { array } => put_array(page, array),
+        Item::Gate { gate } => put_gate_item(page, gate),
+        Item::Definition { definition } => put_definition(page, definition),
+        Item::Statement { statement } => put_statement(page, 0, statement),
+    }
+}
+
+/// An include.
+#[tactic(auto, using(crate::proofs::Lines::sentence_put, crate::proofs::Puts::puts_both))]
+fn put_include(page: &mut Page, name: &Label) -> Result<(), AllocError>
+    ensures { OnOk result (sheet_of page.new ≡ put_lines (sheet_of page.old) 0 (spec.include_lines name.now)) }
+{
+    page.begin(0)?;
+    page.put(Role::Keyword, "include")?;
+    page.put_quoted(name.text())?;
+    finish(page)
+}
+
+/// An input or an output.
+#[tactic(auto, using(crate::proofs::Lines::sentence_put, crate::proofs::Puts::puts_both))]
+fn put_typed(page: &mut Page, head: &str, scalar: &Scalar, name: &Label) -> Result<(), AllocError>
+    ensures { OnOk result (sheet_of page.new ≡ put_lines (sheet_of page.old) 0 (spec.typed head.now scalar.now name.now)) }
+{
+    page.begin(0)?;
+    page.put(Role::Keyword, head)?;
+    put_scalar(page, scalar)?;
+    page.put(Role::Name, name.text())?;
+    finish(page)
+}
+
+/// A qubit or a register of qubits, as it is declared or as a parameter.
+#[tactic(auto, using(crate::proofs::Puts::puts_both))]
+fn put_qubit(page: &mut Page, size: &Option<Expr>, name: &Label) -> Result<(), AllocError>
+    ensures { OnOk result (sheet_of page.new ≡ puts (sheet_of page.old) (spec.qubit_words size.now name.now)) }
+{
+    page.put(Role::Keyword, "qubit")?;
+    put_size(page, size)?;
+    page.put(Role::Name, name.text())
+}
+
+/// The declaration of a qubit or a register of qubits.
+#[tactic(auto, using(crate::proofs::Lines::sentence_put, crate::proofs::Puts::puts_both))]
+fn put_qubit_item(page: &mut Page, size: &Option<Expr>, name: &Label) -> Result<(), AllocError>
+    ensures { OnOk result (sheet_of page.new ≡ put_lines (sheet_of page.old) 0 (statements.sentence (spec.qubit_words size.now name.now))) }
+{
+    page.begin(0)?;
+    put_qubit(page, size, name)?;
+    finish(page)
+}
+
+/// The declaration of a register of qubits by its old keyword.
+#[tactic(auto, using(crate::proofs::Lines::sentence_put, crate::proofs::Puts::puts_both))]
+fn put_qubit_register(page: &mut Page, name: &Label, size: &Option<Expr>) -> Result<(), AllocError>
+    ensures { OnOk result (sheet_of page.new ≡ put_lines (sheet_of page.old) 0 (spec.qubit_register_lines name.now size.now)) }
+{
+    page.begin(0)?;
+    put_register(page, "qreg", name, size)
+}
+
+/// An array.
+#[tactic(auto, using(crate::proofs::Lines::sentence_put, crate::proofs::Puts::puts_both))]
+fn put_array(page: &mut Page, array: &ArrayItem) -> Result<(), AllocError>
+    ensures { OnOk result (sheet_of page.new ≡ put_lines (sheet_of page.old) 0 (statements.sentence (spec.array_words array.now))) }
+{
+    page.begin(0)?;
+    page.put(Role::Keyword, "array")?;
+    page.put(Role::Opening, "[")?;
+    put_scalar(page, &array.scalar)?;
+    put_dimensions(page, array.dimensions.as_slice())?;
+    page.put(Role::ClosingBracket, "]")?;
+    page.put(Role::Name, array.name.text())?;
+    put_values(page, &array.value)?;
+    finish(page)
+}
+
+/// The dimensions of an array, each behind a comma.
+fn put_dimensions(page: &mut Page, dimensions: &[Expr]) -> Result<(), AllocError>
+    ensures { OnOk result (sheet_of page.new ≡ puts (sheet_of page.old) (words.each_behind words.comma (map expressions.expr_words dimensions.now))) }
+{
+    for dimension in dimensions {
+        page.put(Role::Comma, ",")?;
+        put_expr(page, dimension)?;
+    }
+    Ok(())
+}
+
+/// The first values of an array, where they stand.
+#[tactic(auto, using(crate::proofs::Puts::puts_both))]
+fn put_values(page: &mut Page, values: &Option<Items<ListItem>>) -> Result<(), AllocError>
+    ensures { OnOk result (sheet_of page.new ≡ puts (sheet_of page.old) (words.optional spec.valued values.now)) }
+{
+    match values {
+        None => Ok(()),
+        Some(values) => {
+            page.put(Role::Operator, "=")?;
+            put_values_list(page, values.as_slice())
+        }
+    }
+}
+
+/// A list of values, in braces.
+#[tactic(auto, using(crate::proofs::Puts::puts_both))]
+#[cycle(list)]
+fn put_values_list(page: &mut Page, items: &[ListItem]) -> Result<(), AllocError>
+    ensures { OnOk result (sheet_of page.new ≡ puts (sheet_of page.old) (spec.values_words items.now)) }
+{
+    page.put(Role::Opening, "{")?;
+    put_list_items(page, items)?;
+    page.put(Role::ClosingBrace, "}")
+}
+
+/// Values with commas between.
+#[cycle(list)]
+fn put_list_items(page: &mut Page, items: &[ListItem]) -> Result<(), AllocError>
+    ensures { OnOk result (sheet_of page.new ≡ puts (sheet_of page.old) (words.separated words.comma (map spec.item_words items.now))) }
+{
+    let mut first = true;
+    for item in items {
+        if !first {
+            page.put(Role::Comma, ",")?;
+        }
+        put_list_item(page, item)?;
+        first = false;
+    }
+    Ok(())
+}
+
+/// One value of an array, or a list of them.
+#[tactic(auto, using(crate::proofs::Items::list_items))]
+#[cycle(list)]
+fn put_list_item(page: &mut Page, item: &ListItem) -> Result<(), AllocError>
+    ensures { OnOk result (sheet_of page.new ≡ puts (sheet_of page.old) (spec.item_words item.now)) }
+{
+    match item {
+        ListItem::List { items } => put_values_list(page, items.as_slice()),
+        ListItem::Value { value } => put_expr(page, value),
+    }
+}
+
+/// Names with commas between.
+fn put_names(page: &mut Page, names: &[Label]) -> Result<(), AllocError>
+    ensures { OnOk result (sheet_of page.new ≡ puts (sheet_of page.old) (spec.names_words names.now)) }
+{
+    let mut first = true;
+    for name in names {
+        if !first {
+            page.put(Role::Comma, ",")?;
+        }
+        put_name(page, name)?;
+        first = false;
+    }
+    Ok(())
+}
+
+/// A name.
+fn put_name(page: &mut Page, name: &Label) -> Result<(), AllocError>
+    ensures { OnOk result (sheet_of page.new ≡ puts (sheet_of page.old) (spec.name_words name.now)) }
+{
+    page.put(Role::Name, name.text())
+}
+
+/// A gate.
+#[tactic(auto, using(crate::proofs::Lines::block_put, crate::proofs::Puts::puts_both))]
+fn put_gate_item(page: &mut Page, gate: &GateItem) -> Result<(), AllocError>
+    ensures { OnOk result (sheet_of page.new ≡ put_lines (sheet_of page.old) 0 (spec.gate_lines gate.now)) }
+{
+    page.begin(0)?;
+    put_gate_head(page, gate)?;
+    open_body(page)?;
+    put_gate_statements(page, gate.body.as_slice())?;
+    close_body(page, 0)?;
+    page.end()
+}
+
+/// The head of a gate.
+#[tactic(auto, using(crate::proofs::Puts::puts_both))]
+fn put_gate_head(page: &mut Page, gate: &GateItem) -> Result<(), AllocError>
+    ensures { OnOk result (sheet_of page.new ≡ puts (sheet_of page.old) (spec.gate_head gate.now)) }
+{
+    page.put(Role::Keyword, "gate")?;
+    page.put(Role::Name, gate.name.text())?;
+    put_parameter_names(page, &gate.parameters)?;
+    put_names(page, gate.qubits.as_slice())
+}
+
+/// The parameters of a gate in parentheses, where these stand.
+#[tactic(auto, using(crate::proofs::Puts::puts_both))]
+fn put_parameter_names(page: &mut Page, names: &Option<Items<Label>>) -> Result<(), AllocError>
+    ensures { OnOk result (sheet_of page.new ≡ puts (sheet_of page.old) (words.optional spec.parameters_words names.now)) }
+{
+    match names {
+        None => Ok(()),
+        Some(names) => {
+            page.put(Role::Opening, "(")?;
+            put_names(page, names.as_slice())?;
+            page.put(Role::ClosingParenthesis, ")")
+        }
+    }
+}
+
+/// The statements of a gate's body.
+fn put_gate_statements(page: &mut Page, all: &[GateStatement]) -> Result<(), AllocError>
+    ensures { OnOk result (sheet_of page.new ≡ put_lines (sheet_of page.old) 1 (statements.all_lines (map spec.gate_statement_lines all.now))) }
+{
+    for statement in all {
+        put_gate_statement(page, statement)?;
+    }
+    Ok(())
+}
+
+/// A statement of a gate's body.
+#[tactic(auto, using(crate::proofs::Lines::sentence_put, crate::proofs::Puts::puts_both))]
+fn put_gate_statement(page: &mut Page, statement: &GateStatement) -> Result<(), AllocError>
+    ensures { OnOk result (sheet_of page.new ≡ put_lines (sheet_of page.old) 1 (spec.gate_statement_lines statement.now)) }
+{
+    page.begin(1)?;
+    match &statement.form {
+        GateForm::Call { call } => put_gate_call(page, call),
+        GateForm::Barrier { qubits } => put_gate_barrier(page, qubits.as_slice()),
+    }
+}
+
+/// A barrier in a gate's body.
+#[tactic(auto, using(crate::proofs::Puts::puts_both))]
+fn put_gate_barrier(page: &mut Page, qubits: &[Label]) -> Result<(), AllocError>
+    ensures { OnOk result (sheet_of page.new ≡ put_sentence (sheet_of page.old) (spec.gate_barrier_words qubits.now)) }
+{
+    page.put(Role::Keyword, "barrier")?;
+    put_names(page, qubits)?;
+    finish(page)
+}
+
+/// A subroutine.
+#[tactic(auto, using(crate::proofs::Lines::block_put, crate::proofs::Puts::puts_both))]
+fn put_definition(page: &mut Page, definition: &Definition) -> Result<(), AllocError>
+    ensures { OnOk result (sheet_of page.new ≡ put_lines (sheet_of page.old) 0 (spec.definition_lines definition.now)) }
+{
+    page.begin(0)?;
+    put_definition_head(page, definition)?;
+    put_body(page, 0, definition.body.as_slice())?;
+    page.end()
+}
+
+/// The head of a subroutine.
+#[tactic(auto, using(crate::proofs::Puts::puts_both))]
+fn put_definition_head(page: &mut Page, definition: &Definition) -> Result<(), AllocError>
+    ensures { OnOk result (sheet_of page.new ≡ puts (sheet_of page.old) (spec.definition_head definition.now)) }
+{
+    page.put(Role::Keyword, "def")?;
+    page.put(Role::Name, definition.name.text())?;
+    page.put(Role::Opening, "(")?;
+    put_parameters(page, definition.parameters.as_slice())?;
+    page.put(Role::ClosingParenthesis, ")")?;
+    put_result(page, &definition.result)
+}
+
+/// Parameters with commas between.
+fn put_parameters(page: &mut Page, parameters: &[Parameter]) -> Result<(), AllocError>
+    ensures { OnOk result (sheet_of page.new ≡ puts (sheet_of page.old) (words.separated words.comma (map spec.parameter_words parameters.now))) }
+{
+    let mut first = true;
+    for parameter in parameters {
+        if !first {
+            page.put(Role::Comma, ",")?;
+        }
+        put_parameter(page, parameter)?;
+        first = false;
+    }
+    Ok(())
+}
+
+/// A parameter.
+#[tactic(auto, using(crate::proofs::Puts::puts_both))]
+fn put_parameter(page: &mut Page, parameter: &Parameter) -> Result<(), AllocError>
+    ensures { OnOk result (sheet_of page.new ≡ puts (sheet_of page.old) (spec.parameter_words parameter.now)) }
+{
+    match parameter {
+        Parameter::Classical { scalar, name } => {
+            put_scalar(page, scalar)?;
+            page.put(Role::Name, name.text())
+        }
+        Parameter::Qubits { size, name } => put_qubit(page, size, name),
+    }
+}
+
+/// `->` and the type of a result, where it stands.
+fn put_result(page: &mut Page, of: &Option<Scalar>) -> Result<(), AllocError>
+    ensures { OnOk result (sheet_of page.new ≡ puts (sheet_of page.old) (words.optional spec.result_words of.now)) }
+{
+    match of {
+        None => Ok(()),
+        Some(scalar) => {
+            page.put(Role::Operator, "->")?;
+            put_scalar(page, scalar)
+        }
+    }
+}

@@ -1,0 +1,643 @@
+//! Statements: one a line, and each body in braces.
+
+ghost use Rattle.std.specs.Prelude.{◌≡◌, ◌+◌, ◌++◌, codes, map, OnOk, IfOk};
+ghost use Rattle.qt_print.specs.Words as words;
+ghost use Rattle.qt_print.specs.Expressions as expressions;
+ghost use Rattle.qt_print.specs.Statements as spec;
+ghost use Rattle.qt_print.specs.Page as pages;
+ghost use Rattle.qt_print.specs.Page.{sheet_of, puts, put_sentence, put_lines};
+
+use crate::expression::{
+    operator_text, put_arguments, put_brackets, put_expr, put_index, put_parenthesized, put_range,
+    put_scalar, put_set,
+};
+use crate::page::Page;
+use crate::role::Role;
+use qt_tree::expression::{BinaryOp, Expr, Scalar};
+use qt_tree::label::Label;
+use qt_tree::statement::{
+    CalledGate, GateCall, Modifier, Operand, Right, Sequence, Statement, StatementForm, Target,
+};
+use sqlite_items::Items;
+use std::alloc::AllocError;
+
+/// The number of bodies that the statements of a body stand in. No text has room for more, so past the last number memory
+/// counts as run out.
+pub(crate) fn deeper(depth: usize) -> Result<usize, AllocError>
+    ensures { IfOk result (λ inner. inner ≡ depth + 1) }
+{
+    depth.checked_add(1).ok_or(AllocError)
+}
+
+/// How a compound assignment is written.
+fn compound_text(operator: BinaryOp) -> &'static str
+    ensures { result.now ≡ expressions.operator_text operator ++ codes "=" }
+{
+    match operator {
+        BinaryOp::LogicalOr => "||=",
+        BinaryOp::LogicalAnd => "&&=",
+        BinaryOp::Or => "|=",
+        BinaryOp::Xor => "^=",
+        BinaryOp::And => "&=",
+        BinaryOp::Eq => "===",
+        BinaryOp::Ne => "!==",
+        BinaryOp::Lt => "<=",
+        BinaryOp::Le => "<==",
+        BinaryOp::Gt => ">=",
+        BinaryOp::Ge => ">==",
+        BinaryOp::Shl => "<<=",
+        BinaryOp::Shr => ">>=",
+        BinaryOp::Add => "+=",
+        BinaryOp::Sub => "-=",
+        BinaryOp::Mul => "*=",
+        BinaryOp::Div => "/=",
+        BinaryOp::Rem => "%=",
+        BinaryOp::Pow => "**=",
+    }
+}
+
+/// A size in brackets, where it stands.
+#[tactic(auto, using(crate::proofs::Puts::puts_both))]
+pub(crate) fn put_size(page: &mut Page, size: &Option<Expr>) -> Result<(), AllocError>
+    ensures { OnOk result (sheet_of page.new ≡ puts (sheet_of page.old) (expressions.size_words size.now)) }
+{
+    match size {
+        None => Ok(()),
+        Some(size) => {
+            page.put(Role::Opening, "[")?;
+            put_expr(page, size)?;
+            page.put(Role::ClosingBracket, "]")
+        }
+    }
+}
+
+/// An operand.
+#[tactic(auto, using(crate::proofs::Puts::puts_both))]
+fn put_operand(page: &mut Page, operand: &Operand) -> Result<(), AllocError>
+    ensures { OnOk result (sheet_of page.new ≡ puts (sheet_of page.old) (spec.operand_words operand.now)) }
+{
+    page.put(Role::Name, operand.name.text())?;
+    match &operand.index {
+        None => Ok(()),
+        Some(index) => {
+            page.put(Role::Opening, "[")?;
+            put_index(page, index)?;
+            page.put(Role::ClosingBracket, "]")
+        }
+    }
+}
+
+/// Operands with commas between.
+fn put_operands(page: &mut Page, operands: &[Operand]) -> Result<(), AllocError>
+    ensures { OnOk result (sheet_of page.new ≡ puts (sheet_of page.old) (spec.operands_words operands.now)) }
+{
+    let mut first = true;
+    for operand in operands {
+        if !first {
+            page.put(Role::Comma, ",")?;
+        }
+        put_operand(page, operand)?;
+        first = false;
+    }
+    Ok(())
+}
+
+/// The parts of an alias, with `++` between.
+fn put_parts(page: &mut Page, parts: &[Operand]) -> Result<(), AllocError>
+    ensures { OnOk result (sheet_of page.new ≡ puts (sheet_of page.old) (spec.parts_words parts.now)) }
+{
+    let mut first = true;
+    for part in parts {
+        if !first {
+            page.put(Role::Operator, "++")?;
+        }
+        put_operand(page, part)?;
+        first = false;
+    }
+    Ok(())
+}
+
+/// A target.
+fn put_target(page: &mut Page, target: &Target) -> Result<(), AllocError>
+    ensures { OnOk result (sheet_of page.new ≡ puts (sheet_of page.old) (spec.target_words target.now)) }
+{
+    page.put(Role::Name, target.name.text())?;
+    put_brackets(page, target.brackets.as_slice())
+}
+
+/// A right side.
+fn put_right(page: &mut Page, right: &Right) -> Result<(), AllocError>
+    ensures { OnOk result (sheet_of page.new ≡ puts (sheet_of page.old) (spec.right_words right.now)) }
+{
+    match right {
+        Right::Measure { qubits } => {
+            page.put(Role::Keyword, "measure")?;
+            put_operand(page, qubits)
+        }
+        Right::Value { value } => put_expr(page, value),
+    }
+}
+
+/// `=` and a right side.
+fn put_assigned(page: &mut Page, right: &Right) -> Result<(), AllocError>
+    ensures { OnOk result (sheet_of page.new ≡ puts (sheet_of page.old) (spec.assigned right.now)) }
+{
+    page.put(Role::Operator, "=")?;
+    put_right(page, right)
+}
+
+/// A count in parentheses, where it stands.
+fn put_count(page: &mut Page, count: &Option<Expr>) -> Result<(), AllocError>
+    ensures { OnOk result (sheet_of page.new ≡ puts (sheet_of page.old) (spec.count_words count.now)) }
+{
+    match count {
+        None => Ok(()),
+        Some(count) => put_parenthesized(page, count),
+    }
+}
+
+/// A modifier.
+fn put_modifier(page: &mut Page, modifier: &Modifier) -> Result<(), AllocError>
+    ensures { OnOk result (sheet_of page.new ≡ puts (sheet_of page.old) (spec.modifier_words modifier.now)) }
+{
+    match modifier {
+        Modifier::Inv => page.put(Role::Keyword, "inv"),
+        Modifier::Pow { exponent } => {
+            page.put(Role::Keyword, "pow")?;
+            put_parenthesized(page, exponent)
+        }
+        Modifier::Ctrl { count } => {
+            page.put(Role::Keyword, "ctrl")?;
+            put_count(page, count)
+        }
+        Modifier::NegCtrl { count } => {
+            page.put(Role::Keyword, "negctrl")?;
+            put_count(page, count)
+        }
+    }
+}
+
+/// A modifier and its `@`.
+#[tactic(auto, using(crate::proofs::Puts::puts_both))]
+fn put_modifying(page: &mut Page, modifier: &Modifier) -> Result<(), AllocError>
+    ensures { OnOk result (sheet_of page.new ≡ puts (sheet_of page.old) (spec.modifying modifier.now)) }
+{
+    put_modifier(page, modifier)?;
+    page.put(Role::Operator, "@")
+}
+
+/// The modifiers of a call, each with its `@`.
+fn put_modifiers(page: &mut Page, modifiers: &[Modifier]) -> Result<(), AllocError>
+    ensures { OnOk result (sheet_of page.new ≡ puts (sheet_of page.old) (words.joined (map spec.modifying modifiers.now))) }
+{
+    for modifier in modifiers {
+        put_modifying(page, modifier)?;
+    }
+    Ok(())
+}
+
+/// What a gate call calls.
+fn put_gate(page: &mut Page, gate: &CalledGate) -> Result<(), AllocError>
+    ensures { OnOk result (sheet_of page.new ≡ puts (sheet_of page.old) (spec.gate_words gate.now)) }
+{
+    match gate {
+        CalledGate::Named { name, arguments } => {
+            page.put(Role::Name, name.text())?;
+            match arguments {
+                None => Ok(()),
+                Some(arguments) => put_arguments(page, arguments.as_slice()),
+            }
+        }
+        CalledGate::GlobalPhase { angle } => {
+            page.put(Role::Keyword, "gphase")?;
+            put_parenthesized(page, angle)
+        }
+    }
+}
+
+/// A gate call.
+#[tactic(auto, using(crate::proofs::Puts::puts_both))]
+pub(crate) fn put_call(page: &mut Page, call: &GateCall) -> Result<(), AllocError>
+    ensures { OnOk result (sheet_of page.new ≡ puts (sheet_of page.old) (spec.call_words call.now)) }
+{
+    put_modifiers(page, call.modifiers.as_slice())?;
+    put_gate(page, &call.gate)?;
+    put_operands(page, call.operands.as_slice())
+}
+
+/// What a `for` goes over.
+#[tactic(auto, using(crate::proofs::Puts::puts_both))]
+fn put_sequence(page: &mut Page, sequence: &Sequence) -> Result<(), AllocError>
+    ensures { OnOk result (sheet_of page.new ≡ puts (sheet_of page.old) (spec.sequence_words sequence.now)) }
+{
+    match sequence {
+        Sequence::Range { range } => {
+            page.put(Role::Opening, "[")?;
+            put_range(page, range)?;
+            page.put(Role::ClosingBracket, "]")
+        }
+        Sequence::Set { members } => put_set(page, members.as_slice()),
+        Sequence::Name { name } => page.put(Role::Name, name.text()),
+    }
+}
+
+/// The end of a statement on a line of its own.
+pub(crate) fn finish(page: &mut Page) -> Result<(), AllocError>
+    ensures { OnOk result (sheet_of page.new ≡ pages.ended (pages.put_on (sheet_of page.old) words.semicolon)) }
+{
+    page.put(Role::Semicolon, ";")?;
+    page.end()
+}
+
+/// A statement that is one keyword.
+#[tactic(auto, using(crate::proofs::Puts::puts_both))]
+fn put_single(page: &mut Page, keyword: &str) -> Result<(), AllocError>
+    ensures { OnOk result (sheet_of page.new ≡ put_sentence (sheet_of page.old) (spec.single_words keyword.now)) }
+{
+    page.put(Role::Keyword, keyword)?;
+    finish(page)
+}
+
+/// The declaration of a variable.
+#[tactic(auto, using(crate::proofs::Puts::puts_both))]
+fn put_declaration(
+    page: &mut Page,
+    scalar: &Scalar,
+    name: &Label,
+    value: &Option<Right>,
+) -> Result<(), AllocError>
+    ensures { OnOk result (sheet_of page.new ≡ put_sentence (sheet_of page.old) (spec.declaration_words scalar.now name.now value.now)) }
+{
+    put_scalar(page, scalar)?;
+    page.put(Role::Name, name.text())?;
+    put_first_value(page, value)?;
+    finish(page)
+}
+
+/// The first value of a variable, where it stands.
+fn put_first_value(page: &mut Page, value: &Option<Right>) -> Result<(), AllocError>
+    ensures { OnOk result (sheet_of page.new ≡ puts (sheet_of page.old) (words.optional spec.assigned value.now)) }
+{
+    match value {
+        None => Ok(()),
+        Some(value) => put_assigned(page, value),
+    }
+}
+
+/// The declaration of a register by an old keyword.
+#[tactic(auto, using(crate::proofs::Puts::puts_both))]
+pub(crate) fn put_register(
+    page: &mut Page,
+    keyword: &str,
+    name: &Label,
+    size: &Option<Expr>,
+) -> Result<(), AllocError>
+    ensures { OnOk result (sheet_of page.new ≡ put_sentence (sheet_of page.old) (spec.register_words keyword.now name.now size.now)) }
+{
+    page.put(Role::Keyword, keyword)?;
+    page.put(Role::Name, name.text())?;
+    put_size(page, size)?;
+    finish(page)
+}
+
+/// The declaration of a constant.
+#[tactic(auto, using(crate::proofs::Puts::puts_both))]
+fn put_constant(
+    page: &mut Page,
+    scalar: &Scalar,
+    name: &Label,
+    value: &Expr,
+) -> Result<(), AllocError>
+    ensures { OnOk result (sheet_of page.new ≡ put_sentence (sheet_of page.old) (spec.constant_words scalar.now name.now value.now)) }
+{
+    page.put(Role::Keyword, "const")?;
+    put_scalar(page, scalar)?;
+    page.put(Role::Name, name.text())?;
+    page.put(Role::Operator, "=")?;
+    put_expr(page, value)?;
+    finish(page)
+}
+
+/// An alias.
+#[tactic(auto, using(crate::proofs::Puts::puts_both))]
+fn put_alias(page: &mut Page, name: &Label, parts: &[Operand]) -> Result<(), AllocError>
+    ensures { OnOk result (sheet_of page.new ≡ put_sentence (sheet_of page.old) (spec.alias_words name.now parts.now)) }
+{
+    page.put(Role::Keyword, "let")?;
+    page.put(Role::Name, name.text())?;
+    page.put(Role::Operator, "=")?;
+    put_parts(page, parts)?;
+    finish(page)
+}
+
+/// An assignment.
+#[tactic(auto, using(crate::proofs::Puts::puts_both))]
+fn put_assignment(page: &mut Page, target: &Target, value: &Right) -> Result<(), AllocError>
+    ensures { OnOk result (sheet_of page.new ≡ put_sentence (sheet_of page.old) (spec.assignment_words target.now value.now)) }
+{
+    put_target(page, target)?;
+    put_assigned(page, value)?;
+    finish(page)
+}
+
+/// A compound assignment.
+#[tactic(auto, using(crate::proofs::Puts::puts_both))]
+fn put_compound(
+    page: &mut Page,
+    target: &Target,
+    operator: BinaryOp,
+    value: &Expr,
+) -> Result<(), AllocError>
+    ensures { OnOk result (sheet_of page.new ≡ put_sentence (sheet_of page.old) (spec.compound_words target.now operator value.now)) }
+{
+    put_target(page, target)?;
+    page.put(Role::Operator, compound_text(operator))?;
+    put_expr(page, value)?;
+    finish(page)
+}
+
+/// A measurement.
+#[tactic(auto, using(crate::proofs::Puts::puts_both))]
+fn put_measurement(
+    page: &mut Page,
+    qubits: &Operand,
+    target: &Option<Target>,
+) -> Result<(), AllocError>
+    ensures { OnOk result (sheet_of page.new ≡ put_sentence (sheet_of page.old) (spec.measurement_words qubits.now target.now)) }
+{
+    page.put(Role::Keyword, "measure")?;
+    put_operand(page, qubits)?;
+    put_stored(page, target)?;
+    finish(page)
+}
+
+/// `->` and the target of a measurement, where it stands.
+fn put_stored(page: &mut Page, target: &Option<Target>) -> Result<(), AllocError>
+    ensures { OnOk result (sheet_of page.new ≡ puts (sheet_of page.old) (words.optional spec.stored target.now)) }
+{
+    match target {
+        None => Ok(()),
+        Some(target) => {
+            page.put(Role::Operator, "->")?;
+            put_target(page, target)
+        }
+    }
+}
+
+/// A reset.
+#[tactic(auto, using(crate::proofs::Puts::puts_both))]
+fn put_reset(page: &mut Page, qubits: &Operand) -> Result<(), AllocError>
+    ensures { OnOk result (sheet_of page.new ≡ put_sentence (sheet_of page.old) (spec.reset_words qubits.now)) }
+{
+    page.put(Role::Keyword, "reset")?;
+    put_operand(page, qubits)?;
+    finish(page)
+}
+
+/// A barrier.
+#[tactic(auto, using(crate::proofs::Puts::puts_both))]
+fn put_barrier(page: &mut Page, qubits: &[Operand]) -> Result<(), AllocError>
+    ensures { OnOk result (sheet_of page.new ≡ put_sentence (sheet_of page.old) (spec.barrier_words qubits.now)) }
+{
+    page.put(Role::Keyword, "barrier")?;
+    put_operands(page, qubits)?;
+    finish(page)
+}
+
+/// A gate call.
+#[tactic(auto, using(crate::proofs::Puts::puts_both))]
+pub(crate) fn put_gate_call(page: &mut Page, call: &GateCall) -> Result<(), AllocError>
+    ensures { OnOk result (sheet_of page.new ≡ put_sentence (sheet_of page.old) (spec.call_words call.now)) }
+{
+    put_modifiers(page, call.modifiers.as_slice())?;
+    put_gate(page, &call.gate)?;
+    put_operands(page, call.operands.as_slice())?;
+    finish(page)
+}
+
+/// A subroutine's call.
+#[tactic(auto, using(crate::proofs::Puts::puts_both))]
+fn put_subroutine_call(page: &mut Page, name: &Label, arguments: &[Expr]) -> Result<(), AllocError>
+    ensures { OnOk result (sheet_of page.new ≡ put_sentence (sheet_of page.old) (spec.subroutine_words name.now arguments.now)) }
+{
+    page.put(Role::Name, name.text())?;
+    put_arguments(page, arguments)?;
+    finish(page)
+}
+
+/// `return` and what is returned, where it stands.
+#[tactic(auto, using(crate::proofs::Puts::puts_both))]
+fn put_return(page: &mut Page, value: &Option<Right>) -> Result<(), AllocError>
+    ensures { OnOk result (sheet_of page.new ≡ put_sentence (sheet_of page.old) (spec.return_words value.now)) }
+{
+    page.put(Role::Keyword, "return")?;
+    put_returned(page, value)?;
+    finish(page)
+}
+
+/// What is returned, where it stands.
+fn put_returned(page: &mut Page, value: &Option<Right>) -> Result<(), AllocError>
+    ensures { OnOk result (sheet_of page.new ≡ puts (sheet_of page.old) (words.optional spec.right_words value.now)) }
+{
+    match value {
+        None => Ok(()),
+        Some(value) => put_right(page, value),
+    }
+}
+
+/// A head with a condition: `if` or `while`.
+#[tactic(auto, using(crate::proofs::Puts::puts_both))]
+fn put_condition(page: &mut Page, head: &str, condition: &Expr) -> Result<(), AllocError>
+    ensures { OnOk result (sheet_of page.new ≡ puts (sheet_of page.old) (spec.condition_words head.now condition.now)) }
+{
+    page.put(Role::Head, head)?;
+    put_parenthesized(page, condition)
+}
+
+/// The head of a `for`.
+#[tactic(auto, using(crate::proofs::Puts::puts_both))]
+fn put_for_head(
+    page: &mut Page,
+    scalar: &Scalar,
+    name: &Label,
+    values: &Sequence,
+) -> Result<(), AllocError>
+    ensures { OnOk result (sheet_of page.new ≡ puts (sheet_of page.old) (spec.for_words scalar.now name.now values.now)) }
+{
+    page.put(Role::Head, "for")?;
+    put_scalar(page, scalar)?;
+    page.put(Role::Name, name.text())?;
+    page.put(Role::In, "in")?;
+    put_sequence(page, values)
+}
+
+/// The `{` of a body, which ends the head's line.
+pub(crate) fn open_body(page: &mut Page) -> Result<(), AllocError>
+    ensures { OnOk result (sheet_of page.new ≡ pages.ended (pages.put_on (sheet_of page.old) spec.body_start)) }
+{
+    page.put(Role::BodyStart, "{")?;
+    page.end()
+}
+
+/// The `}` of a body, which begins a line.
+pub(crate) fn close_body(page: &mut Page, depth: usize) -> Result<(), AllocError>
+    ensures { OnOk result (sheet_of page.new ≡ pages.put_on (pages.begun (sheet_of page.old) depth) spec.body_end) }
+{
+    page.begin(depth)?;
+    page.put(Role::BodyEnd, "}")
+}
+
+/// A statement that stands in so many bodies.
+#[tactic(auto, using(crate::proofs::Lines::statement_is))]
+#[cycle(statement)]
+pub(crate) fn put_statement(
+    page: &mut Page,
+    depth: usize,
+    statement: &Statement,
+) -> Result<(), AllocError>
+    ensures { OnOk result (sheet_of page.new ≡ put_lines (sheet_of page.old) depth (spec.statement_lines statement.now)) }
+{
+    put_form(page, depth, &statement.form)
+}
+
+/// One form of a statement.
+#[tactic(auto, using(crate::proofs::Lines::forms))]
+#[cycle(statement)]
+fn put_form(page: &mut Page, depth: usize, form: &StatementForm) -> Result<(), AllocError>
+    ensures { OnOk result (sheet_of page.new ≡ put_lines (sheet_of page.old) depth (spec.form_lines form.now)) }
+{
+    page.begin(depth)?;
+    match form {
+        StatementForm::Declaration {
+            scalar,
+            name,
+            value,
+        } => put_declaration(page, scalar, name, value),
+        StatementForm::BitRegister { name, size } => put_register(page, "creg", name, size),
+        StatementForm::Constant {
+            scalar,
+            name,
+            value,
+        } => put_constant(page, scalar, name, value),
+        StatementForm::Alias { name, parts } => put_alias(page, name, parts.as_slice()),
+        StatementForm::Assignment { target, value } => put_assignment(page, target, value),
+        StatementForm::CompoundAssignment {
+            target,
+            operator,
+            value,
+        } => put_compound(page, target, *operator, value),
+        StatementForm::Measure { qubits, target } => put_measurement(page, qubits, target),
+        StatementForm::Reset { qubits } => put_reset(page, qubits),
+        StatementForm::Barrier { qubits } => put_barrier(page, qubits.as_slice()),
+        StatementForm::Gate { call } => put_gate_call(page, call),
+        StatementForm::Call { name, arguments } => {
+            put_subroutine_call(page, name, arguments.as_slice())
+        }
+        StatementForm::If {
+            condition,
+            body,
+            otherwise,
+        } => put_if(page, depth, condition, body.as_slice(), otherwise),
+        StatementForm::While { condition, body } => {
+            put_while(page, depth, condition, body.as_slice())
+        }
+        StatementForm::For {
+            scalar,
+            name,
+            values,
+            body,
+        } => put_for(page, depth, scalar, name, values, body.as_slice()),
+        StatementForm::Break => put_single(page, "break"),
+        StatementForm::Continue => put_single(page, "continue"),
+        StatementForm::Return { value } => put_return(page, value),
+        StatementForm::End => put_single(page, "end"),
+    }
+}
+
+/// An `if`, on a line that is begun.
+#[cycle(statement)]
+fn put_if(
+    page: &mut Page,
+    depth: usize,
+    condition: &Expr,
+    body: &[Statement],
+    otherwise: &Option<Items<Statement>>,
+) -> Result<(), AllocError>
+    ensures { OnOk result (sheet_of page.new ≡ pages.put_if (sheet_of page.old) depth (spec.condition_words (codes "if") condition.now) (map spec.statement_lines body.now) (pages.each_lines otherwise.now)) }
+{
+    put_condition(page, "if", condition)?;
+    put_body(page, depth, body)?;
+    put_else(page, depth, otherwise)?;
+    page.end()
+}
+
+/// The body behind `else`, where it stands.
+#[cycle(statement)]
+fn put_else(
+    page: &mut Page,
+    depth: usize,
+    otherwise: &Option<Items<Statement>>,
+) -> Result<(), AllocError>
+    ensures { OnOk result (sheet_of page.new ≡ pages.put_else (sheet_of page.old) depth (pages.each_lines otherwise.now)) }
+{
+    match otherwise {
+        None => Ok(()),
+        Some(otherwise) => {
+            page.put(Role::Else, "else")?;
+            put_body(page, depth, otherwise.as_slice())
+        }
+    }
+}
+
+/// A `while`, on a line that is begun.
+#[cycle(statement)]
+fn put_while(
+    page: &mut Page,
+    depth: usize,
+    condition: &Expr,
+    body: &[Statement],
+) -> Result<(), AllocError>
+    ensures { OnOk result (sheet_of page.new ≡ pages.put_block (sheet_of page.old) depth (spec.condition_words (codes "while") condition.now) (map spec.statement_lines body.now)) }
+{
+    put_condition(page, "while", condition)?;
+    put_body(page, depth, body)?;
+    page.end()
+}
+
+/// A `for`, on a line that is begun.
+#[cycle(statement)]
+fn put_for(
+    page: &mut Page,
+    depth: usize,
+    scalar: &Scalar,
+    name: &Label,
+    values: &Sequence,
+    body: &[Statement],
+) -> Result<(), AllocError>
+    ensures { OnOk result (sheet_of page.new ≡ pages.put_block (sheet_of page.old) depth (spec.for_words scalar.now name.now values.now) (map spec.statement_lines body.now)) }
+{
+    put_for_head(page, scalar, name, values)?;
+    put_body(page, depth, body)?;
+    page.end()
+}
+
+/// A body behind its head, up to its `}`.
+#[cycle(statement)]
+pub(crate) fn put_body(page: &mut Page, depth: usize, body: &[Statement]) -> Result<(), AllocError>
+    ensures { OnOk result (sheet_of page.new ≡ pages.put_body (sheet_of page.old) depth (map spec.statement_lines body.now)) }
+{
+    open_body(page)?;
+    put_statements(page, deeper(depth)?, body)?;
+    close_body(page, depth)
+}
+
+/// Statements that stand in so many bodies.
+#[cycle(statement)]
+fn put_statements(page: &mut Page, depth: usize, all: &[Statement]) -> Result<(), AllocError>
+    ensures { OnOk result (sheet_of page.new ≡ put_lines (sheet_of page.old) depth (spec.all_lines (map spec.statement_lines all.now))) }
+{
+    for statement in all {
+        put_statement(page, depth, statement)?;
+    }
+    Ok(())
+}
