@@ -1,49 +1,100 @@
--- From the text as far as it was fetched to what is said of the whole text: no text of a program is as long as the fetch reaches.
-use Rattle.std.proofs.Common.{◌≡◌, ℕ, ◌<◌, ◌≤◌, min, List, [], ◌∷◌, length, take, refl, sym, ap, ◌∙◌, subst, arith, length-take}
+-- From the text as far as it was fetched to what is said of the whole text: a text that is longer than the fetch reaches is refused
+-- for its length, and every other is fetched whole.
+use Rattle.std.proofs.Common.{◌≡◌, ◌≢◌, ℕ, ◌<◌, ◌≤◌, ◌⊎◌, inl, inr, min, List, [], ◌∷◌, codes, length, take, refl, sym, ap, ◌∙◌, subst, arith, length-take}
 use Rattle.std.proofs.lemmas.List.{take_all}
 use Rattle.qt_outside.specs.Causes.{Texts, text_of}
+use Rattle.qt_tree.specs.declared.program.Program.{Program as Source}
+use Rattle.qt_tree.specs.declared.refusal.TextRefusal.{TextRefusal}
+use Rattle.qt_tree.specs.declared.refusal.TextRefusal.TheVariants as e
+use Rattle.qt_read.specs.Lines.{refusal_line}
+use Rattle.qt_read.specs.Reading.{IsTextOfProgram, IsRefused, HasTokens, most_bytes, long, no_utf8, no_token, stopped}
+use Rattle.qt_print.specs.Text.{canonical}
 use Rattle.qt_first.specs.declared.program.Program.{Program}
 use Rattle.qt_first.specs.Form.{IsTextOf}
-use Rattle.qt_first.proofs.Programs.{text_length}
-use Rattle.qt_report.specs.Report.{report_text}
-use Rattle.qt_run.specs.Distribution.{layout_of}
-use Rattle.qt_host.specs.Said.{Said, AskToRun, Answer, reported, refused, other_form, report_of}
-use Rattle.qt_host.specs.Lines.{form_line}
-use Rattle.qt_host.specs.Steps.{IsReportOf, HasNoReport, Tells}
-use Rattle.qt_host.specs.declared.fault.Fault.{Fault}
-use Rattle.qt_host.specs.declared.fault.Fault.TheVariants.{Words, Form, Shelf, Sink, Memory}
-
--- a part that is shorter than it may be is the whole
-whole : (n : ℕ) (text : List ℕ) → length (take n text) < n → take n text ≡ text
-whole n text h = take_all n text (omega (arith, length-take n text))
+use Rattle.std.specs.Prelude.{Result, Ok, Err, MatchResult}
+use Rattle.qt_host.specs.Lines.{form_line, shelf_line, memory_line, fault_line, named}
+use Rattle.qt_host.specs.Said.{Said, Asks, IsMode, Answer, answered, refused, refused_text, other_form, report_of, canonical_of}
+use Rattle.qt_host.specs.Steps.{mode_word, IsReportOf, IsAnswer, HasNoAnswer, HasNoAnswerAt, HasShelfCause, IsTold}
+use Rattle.qt_host.specs.declared.request.Mode.{Mode}
+use Rattle.qt_host.specs.declared.request.Mode.TheVariants.{Run, Format}
+use Rattle.qt_host.specs.declared.refusal.HostRefusal.{HostRefusal}
+use Rattle.qt_host.specs.declared.refusal.HostRefusal.TheVariants.{Shelf, Text, Early, OutOfMemory}
 
 -- how far a text is fetched
 abbrev reach : ℕ
 reach = 1048577
 
-same_text : (p : Program) (text : List ℕ) → IsTextOf p (take reach text) → IsTextOf p text
-same_text p text h =
-    let short : length (take reach text) ≤ 1024 = text_length p (take reach text) h in
-    subst (λ t. IsTextOf p t) (whole reach text (omega arith)) h
+-- a part that is shorter than it may be is the whole
+whole : (text : List ℕ) → length (take reach text) ≤ most_bytes → take reach text ≡ text
+whole text h = take_all reach text (omega (arith, length-take reach text))
 
-other_text : (p : Program) (text : List ℕ) → IsTextOf p text → IsTextOf p (take reach text)
-other_text p text h =
-    let short : length text ≤ 1024 = text_length p text h in
-    subst (λ t. IsTextOf p t) (sym (take_all reach text (omega arith))) h
+whole_source : (text : List ℕ) (source : Source) → IsTextOfProgram 0 (take reach text) source → take reach text ≡ text
+whole_source text source h = whole text h.has.within
 
-pub said_report : (words : List (List ℕ)) (texts : Texts) (name text report bytes : List ℕ) → AskToRun words name → text ≡ take reach (text_of texts name) → IsReportOf text report → bytes ≡ report → Said words texts (reported bytes)
-said_report words texts name text report bytes ask fetched r same =
-    let t : IsTextOf r.0 (text_of texts name) = same_text r.0 (text_of texts name) (subst (λ t. IsTextOf r.0 t) fetched r.2) in
-    subst (λ t. Said words texts (reported t)) (sym (same ∙ r.4)) (report_of name r.0 r.1 ask t r.3)
+-- the reason of the part that was fetched is that of the whole text
+whole_reason : (name text : List ℕ) (reason : TextRefusal) → IsRefused name 0 (take reach text) reason → IsRefused name 0 text reason
+whole_reason name text reason (long l) = long (omega (arith, l, length-take reach text))
+whole_reason name text reason (no_utf8 count within none valid) = subst (λ t. IsRefused name 0 t (e.E1 name count)) (whole text within) (no_utf8 count within none valid)
+whole_reason name text reason (no_token place within utf8 fails) = subst (λ t. IsRefused name 0 t (e.E3 place)) (whole text within) (no_token place within utf8 fails)
+whole_reason name text reason (stopped ts why has stop) = subst (λ t. IsRefused name 0 t why) (whole text has.within) (stopped ts why has stop)
 
--- a fault that is told by 1 is that of the form
-form_fault : (fault : Fault) (text : List ℕ) (status : ℕ) → HasNoReport text fault → Tells fault status → status ≡ 1 → (p : Program) → ¬ IsTextOf p text
-form_fault Words text status h t e = absurd h
-form_fault Form text status h t e = h
-form_fault Shelf text status h t e = absurd h
-form_fault Sink text status h t e = absurd h
-form_fault Memory text status h t e = absurd (omega (arith, t, e))
+is_mode : (mode : Mode) → IsMode (mode_word mode)
+is_mode Run = inl refl
+is_mode Format = inr refl
 
-pub said_form : (words : List (List ℕ)) (texts : Texts) (name text : List ℕ) (fault : Fault) (status : ℕ) → AskToRun words name → text ≡ take reach (text_of texts name) → HasNoReport text fault → Tells fault status → status ≡ 1 → Said words texts (refused 1 (form_line name))
-said_form words texts name text fault status ask fetched none told one =
-    other_form name ask (λ p h. form_fault fault text status none told one p (subst (λ t. IsTextOf p t) (sym fetched) (other_text p (text_of texts name) h)))
+abbrev part : List ℕ → List ℕ
+part text = take reach text
+
+whole_answer : (mode : Mode) (text bytes : List ℕ) → IsAnswer mode (part text) bytes → IsAnswer mode text bytes
+whole_answer Run text bytes a = subst (λ t. IsAnswer Run t bytes) (whole_source text a.0 a.1) a
+whole_answer Format text bytes a = subst (λ t. IsAnswer Format t bytes) (whole_source text a.0 a.1) a
+
+why_whole : (mode : Mode) (name text : List ℕ) (reason : HostRefusal) → HasNoAnswer mode name (part text) reason → HasNoAnswerAt mode name text reason
+why_whole mode name text (Shelf of) h = tt
+why_whole Run name text (Text reason) h = whole_reason name text reason h
+why_whole Format name text (Text reason) h = whole_reason name text reason h
+why_whole Run name text (Early of) h = subst (λ t. HasNoAnswer Run name t (Early of)) (whole_source text h.1.0 h.1.1) h
+why_whole Format name text (Early of) h = absurd h
+why_whole Run name text OutOfMemory h = tt
+why_whole Format name text OutOfMemory h = tt
+
+-- what is answered to the part that was fetched is the answer to the whole
+of_whole : {A : Type 0} (bytes : A → List ℕ) (mode : Mode) (name text : List ℕ) (result : Result A HostRefusal)
+    → MatchResult result (λ a. IsAnswer mode (part text) (bytes a)) (HasNoAnswer mode name (part text)) → MatchResult result (λ a. IsAnswer mode text (bytes a)) (HasNoAnswerAt mode name text)
+of_whole bytes mode name text (Ok a) h = whole_answer mode text (bytes a) h
+of_whole bytes mode name text (Err reason) h = why_whole mode name text reason h
+
+pub of_fetched : {A : Type 0} (bytes : A → List ℕ) (mode : Mode) (name text fetched : List ℕ) (result : Result A HostRefusal) → fetched ≡ part text
+    → MatchResult result (λ a. IsAnswer mode fetched (bytes a)) (HasNoAnswer mode name fetched) → MatchResult result (λ a. IsAnswer mode text (bytes a)) (HasNoAnswerAt mode name text)
+of_fetched bytes mode name text fetched result same h =
+    of_whole bytes mode name text result (subst (λ t. MatchResult result (λ a. IsAnswer mode t (bytes a)) (HasNoAnswer mode name t)) same h)
+
+module _ (words : List (List ℕ)) (texts : Texts) (name : List ℕ) where
+  -- an answer is said
+  pub said : (mode : Mode) (bytes : List ℕ) → Asks words (mode_word mode) name → IsAnswer mode (text_of texts name) bytes → Said words texts (answered bytes)
+  said Run bytes ask a =
+      let r = a.2 in subst (λ t. Said words texts (answered t)) (sym r.4) (report_of name a.0 r.0 r.1 ask a.1 r.2 r.3)
+  said Format bytes ask a = subst (λ t. Said words texts (answered t)) (sym a.2) (canonical_of name a.0 ask a.1)
+
+  -- the line of a refusal that is told by 1 is said
+  pub told : (mode : Mode) (reason : HostRefusal) (status : ℕ) (line : List ℕ) → Asks words (mode_word mode) name → HasNoAnswerAt mode name (text_of texts name) reason → IsTold name reason status line → status ≡ 1 → Said words texts (refused 1 line)
+  told mode (Shelf of) status line ask h (inl t) one = absurd (omega (arith, t.0, one))
+  told Run (Text reason) status line ask h (inl t) one = subst (λ l. Said words texts (refused 1 l)) (sym t.1) (refused_text (mode_word Run) name reason ask (is_mode Run) h)
+  told Format (Text reason) status line ask h (inl t) one = subst (λ l. Said words texts (refused 1 l)) (sym t.1) (refused_text (mode_word Format) name reason ask (is_mode Format) h)
+  told Run (Early of) status line ask h (inl t) one =
+      subst (λ l. Said words texts (refused 1 l)) (sym (t.1 ∙ ap form_line h.0)) (other_form name h.1.0 ask h.1.1 h.2)
+  told Format (Early of) status line ask h (inl t) one = absurd h
+  told mode OutOfMemory status line ask h (inl t) one = absurd (omega (arith, t.0, one))
+  told mode reason status line ask h (inr t) one = absurd (omega (arith, t.0, one))
+
+-- the line of a refusal that isn't told by 1 is that of its status
+pub line_of_status : (words : List (List ℕ)) (mode name : List ℕ) (before now : ℕ) (failed : List ℕ) (reason : HostRefusal) (status : ℕ) (line : List ℕ)
+    → Asks words mode name → HasShelfCause before now failed name reason → IsTold name reason status line → status ≢ 1 → line ≡ fault_line status words
+line_of_status words mode name before now failed reason status line ask cause (inr h) other =
+    h.1 ∙ sym (ap (λ s. fault_line s words) h.0)
+line_of_status words mode name before now failed (Shelf of) status line ask cause (inl h) other =
+    h.1 ∙ ap shelf_line cause.2 ∙ ap shelf_line (sym (ap named ask)) ∙ sym (ap (λ s. fault_line s words) h.0)
+line_of_status words mode name before now failed (Text reason) status line ask cause (inl h) other = absurd (other h.0)
+line_of_status words mode name before now failed (Early of) status line ask cause (inl h) other = absurd (other h.0)
+line_of_status words mode name before now failed OutOfMemory status line ask cause (inl h) other =
+    h.1 ∙ sym (ap (λ s. fault_line s words) h.0)

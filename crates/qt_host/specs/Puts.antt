@@ -3,7 +3,7 @@ use Rattle.std.specs.Prelude.{◌≡◌, ℕ, ◌≤◌, ◌⊎◌, List, [], �
 use Rattle.qt_outside.specs.Causes.{Texts, Rose}
 use Rattle.qt_outside.specs.declared.faults.PutFault.{PutFault}
 use Rattle.qt_outside.specs.declared.faults.PutFault.TheVariants as put
-use Rattle.qt_host.specs.Said.{Answer, Said, reported}
+use Rattle.qt_host.specs.Said.{Answer, Said, answered}
 
 -- a sink as contracts see it
 pub record Seen : Type 0 where
@@ -41,10 +41,10 @@ abbrev pub PutsLine : Seen → Seen → List ℕ → Type 0
 PutsLine before after line =
     Whole before after line ⊎ (Part before after line × (Rose before.faults after.faults ⊎ Rose before.wants after.wants))
 
--- the report that is said went out whole
-abbrev pub Reported : List (List ℕ) → Texts → Seen → Seen → Type 0
-Reported words texts before after = (report : List ℕ) × Said words texts (reported report) × Whole before after report
+-- the answer that is said went out whole
+abbrev pub Answered : List (List ℕ) → Texts → Seen → Seen → Type 0
+Answered words texts before after = (bytes : List ℕ) × Said words texts (answered bytes) × Whole before after bytes
 
--- a prefix of the report that is said went out
-abbrev pub ReportedInPart : List (List ℕ) → Texts → Seen → Seen → Type 0
-ReportedInPart words texts before after = (report : List ℕ) × Said words texts (reported report) × Part before after report
+-- a prefix of the answer that is said went out
+abbrev pub AnsweredInPart : List (List ℕ) → Texts → Seen → Seen → Type 0
+AnsweredInPart words texts before after = (bytes : List ℕ) × Said words texts (answered bytes) × Part before after bytes

@@ -1,57 +1,136 @@
-ghost use Rattle.std.specs.Prelude.{◌≡◌, ℕ, List, map, take, string_bytes, Some, None, Option, IfOk, OnOk, MatchOption, MatchResult};
-ghost use Rattle.qt_outside.specs.Causes.{Texts, text_of, Rose};
-ghost use Rattle.qt_host.specs.Said.{AskToRun};
-ghost use Rattle.qt_host.specs.Steps.{IsReportOf, HasNoReport, HasNoText};
+//! The text that is asked for, and the answer that it comes to.
 
-use crate::fault::Fault;
-use qt_first::read::read;
+ghost use Rattle.std.specs.Prelude.{◌≡◌, ◌≢◌, ℕ, List, map, take, string_bytes, Some, None, Option, IfOk, OnOk, MatchOption, MatchResult};
+ghost use Rattle.qt_outside.specs.Causes.{Texts, text_of, Rose};
+ghost use Rattle.qt_read.specs.Reading.{IsTextOfProgram, IsRefused};
+ghost use Rattle.qt_host.specs.Steps.{IsReportOf, IsAnswer, HasNoSource, HasNoAnswer, HasNoAnswerAt, HasNoText, HasShelfCause};
+ghost use Rattle.qt_host.specs.declared.request.Mode.TheVariants as modes;
+
+use crate::refusal::HostRefusal;
+use crate::request::Mode;
+use qt_first::read::read as read_first;
 use qt_outside::faults::FetchFault;
 use qt_outside::shelf::Shelf;
+use qt_print::print;
+use qt_read::read::read;
 use qt_report::text_report;
 use qt_run::run;
-use std::alloc::Global;
+use qt_tree::label::Label;
+use qt_tree::program::Program;
+use qt_tree::refusal::TextRefusal;
+use std::alloc::{AllocError, Global};
 
 /// One more byte than the longest text that is read, so that a longer one is seen to be too long.
-pub const MOST: usize = 1048577;
+const MOST: usize = 1048577;
 
-/// The name of the text that the words ask to run.
-pub fn name_of(words: &[String]) -> Option<&str>
-    ensures { MatchOption result ((name : List ℕ) → ¬ AskToRun (map string_bytes words.now) name) (λ name. AskToRun (map string_bytes words.now) name.now) }
-{
-    match words {
-        [mode, name] if mode.as_str() == "run" => Some(name.as_str()),
-        _ => None,
+impl From<AllocError> for HostRefusal {
+    ghost use Rattle.qt_host.specs.declared.refusal.HostRefusal.TheVariants.{OutOfMemory};
+
+    ghost from_gives = { λ _ e. e ≡ OutOfMemory };
+
+    fn from(_error: AllocError) -> HostRefusal {
+        HostRefusal::OutOfMemory
     }
 }
 
 /// The text of that name, as far as it is read.
-pub fn fetched<S: Shelf>(alloc: Global, name: &str, shelf: &mut S) -> Result<Vec<u8>, Fault>
+fn fetched<S: Shelf>(alloc: Global, shelf: &mut S, name: &str) -> Result<Vec<u8>, HostRefusal>
     ensures text { (texts : Texts) → S.holds shelf.old ≡ Some texts → IfOk result (λ text. text.items ≡ take MOST (text_of texts name.now)) }
     ensures cause { MatchResult result (λ _. S.faults shelf.new ≡ S.faults shelf.old) (HasNoText (S.faults shelf.old) (S.faults shelf.new) (S.failed shelf.new) name.now) }
 {
     let mut text = Vec::new(alloc);
     match shelf.fetch(name, MOST, &mut text) {
         Ok(()) => Ok(text),
-        Err(FetchFault::Failed) => Err(Fault::Shelf),
-        Err(FetchFault::OutOfMemory) => Err(Fault::Memory),
+        Err(FetchFault::Failed) => Err(HostRefusal::Shelf(Label::new(alloc, name)?)),
+        Err(FetchFault::OutOfMemory) => Err(HostRefusal::OutOfMemory),
     }
 }
 
-/// The report of the program whose text it is.
-pub fn report_of(alloc: Global, text: &[u8]) -> Result<String, Fault>
-    ensures { MatchResult result (λ report. IsReportOf text.now (string_bytes report)) (HasNoReport text.now) }
+/// The program of a text.
+fn source_of(alloc: Global, name: &str, text: &[u8]) -> Result<Program, HostRefusal>
+    ensures { MatchResult result (IsTextOfProgram 0 text.now) (HasNoSource name.now text.now) }
 {
-    let Ok(found) = read(alloc, text) else {
-        return Err(Fault::Memory);
+    match read(alloc, name, 0, text) {
+        Ok(program) => Ok(program),
+        Err(TextRefusal::OutOfMemory) => Err(HostRefusal::OutOfMemory),
+        Err(refusal) => Err(HostRefusal::Text(refusal)),
+    }
+}
+
+/// The canonical text of the program of a text.
+fn canonical_of(alloc: Global, name: &str, text: &[u8]) -> Result<String, HostRefusal>
+    ensures { MatchResult result (λ answer. IsAnswer modes.Format text.now (string_bytes answer)) (HasNoAnswer modes.Format name.now text.now) }
+{
+    let program = match source_of(alloc, name, text) {
+        Ok(program) => program,
+        Err(refusal) => return Err(refusal),
+    };
+    match print(alloc, &program) {
+        Ok(answer) => Ok(answer),
+        Err(_) => Err(HostRefusal::OutOfMemory),
+    }
+}
+
+/// The report of the program of a text, if it has the first form.
+fn report_of(alloc: Global, name: &str, text: &[u8]) -> Result<String, HostRefusal>
+    ensures { MatchResult result (λ answer. IsAnswer modes.Run text.now (string_bytes answer)) (HasNoAnswer modes.Run name.now text.now) }
+{
+    let _source = match source_of(alloc, name, text) {
+        Ok(program) => program,
+        Err(refusal) => return Err(refusal),
+    };
+    let Ok(found) = read_first(alloc, text) else {
+        return Err(HostRefusal::OutOfMemory);
     };
     let Some(program) = found else {
-        return Err(Fault::Form);
+        return Err(HostRefusal::Early(Label::new(alloc, name)?));
     };
     let Ok(distribution) = run(alloc, &program) else {
-        return Err(Fault::Memory);
+        return Err(HostRefusal::OutOfMemory);
     };
     match text_report(alloc, &distribution) {
         Ok(report) => Ok(report),
-        Err(_) => Err(Fault::Memory),
+        Err(_) => Err(HostRefusal::OutOfMemory),
     }
+}
+
+/// The answer to a mode for a text.
+fn answer_of(alloc: Global, mode: Mode, name: &str, text: &[u8]) -> Result<String, HostRefusal>
+    ensures { MatchResult result (λ answer. IsAnswer mode text.now (string_bytes answer)) (HasNoAnswer mode name.now text.now) }
+{
+    match mode {
+        Mode::Run => report_of(alloc, name, text),
+        Mode::Format => canonical_of(alloc, name, text),
+    }
+}
+
+/// The answer to a mode for the text of that name.
+pub fn answer_at<S: Shelf>(
+    alloc: Global,
+    shelf: &mut S,
+    mode: Mode,
+    name: &str,
+) -> Result<String, HostRefusal>
+    ensures answer { (texts : Texts) → S.holds shelf.old ≡ Some texts → MatchResult result (λ answer. IsAnswer mode (text_of texts name.now) (string_bytes answer)) (HasNoAnswerAt mode name.now (text_of texts name.now)) }
+    ensures shelf { MatchResult result (λ _. S.faults shelf.new ≡ S.faults shelf.old) (HasShelfCause (S.faults shelf.old) (S.faults shelf.new) (S.failed shelf.new) name.now) }
+{
+    let text = match fetched(alloc, shelf, name) {
+        Ok(text) => text,
+        Err(refusal) => return Err(refusal),
+    };
+    answer_of(alloc, mode, name, text.as_slice())
+}
+
+/// The canonical text of the program in the text of that name, which alone is fetched. The text is refused as for the mode
+/// `format` (E1 to E6); the shelf's fault comes only where its count rose in this call, with that name, and a count that rose is
+/// answered by that fault or want of memory.
+pub fn format_text<S: Shelf>(
+    alloc: Global,
+    shelf: &mut S,
+    name: &str,
+) -> Result<String, HostRefusal>
+    ensures text { (texts : Texts) → S.holds shelf.old ≡ Some texts → MatchResult result (λ text. IsAnswer modes.Format (text_of texts name.now) (string_bytes text)) (HasNoAnswerAt modes.Format name.now (text_of texts name.now)) }
+    ensures shelf { MatchResult result (λ _. S.faults shelf.new ≡ S.faults shelf.old) (HasShelfCause (S.faults shelf.old) (S.faults shelf.new) (S.failed shelf.new) name.now) }
+{
+    answer_at(alloc, shelf, Mode::Format, name)
 }

@@ -1,16 +1,18 @@
 //! The top call: all that the program does, over a shelf of texts and two sinks that are handed in.
 //!
 //! `host` takes the words of the command line and answers the status; what it puts to the sinks is a clause of its own for
-//! each status. Where it answers 0, the bytes are the report of exactly the distribution of the program whose text the shelf
-//! holds. The answer that is said of words and texts is a relation of specs/Said.antt, and one only (`laws::one_answer`).
+//! each status. Where it answers 0 to `run`, the bytes are the report of exactly the distribution of the program whose text the
+//! shelf holds; where it answers 0 to `format`, they are the canonical text of that program. The answer that is said of words and
+//! texts is a relation of specs/Said.antt, and one only (`laws::one_answer`). [`answer::format_text`] is the mode `format` without words and sinks.
 //! The program calls `host` over files and the standard streams; the tests over the fakes of `qt_outside`.
 #![tactic(auto)]
 
-mod answer;
-mod fault;
+pub mod answer;
 pub mod host;
 pub mod laws;
 mod lines;
+pub mod refusal;
+mod request;
 mod tell;
 #[cfg(test)]
 mod tests;

@@ -1,6 +1,8 @@
 //! The top call over fakes: what goes out, what is told, and the status, row by row.
 
+use crate::answer::format_text;
 use crate::host::host;
+use crate::refusal::HostRefusal;
 use qt_outside::memory_shelf::MemoryShelf;
 use qt_outside::memory_sink::MemorySink;
 use qt_outside::sure_shelf::SureShelf;
@@ -31,7 +33,8 @@ struct Row {
     err: &'static str,
 }
 
-const ROWS: [Row; 10] = [
+/// What is answered to `run`.
+const RUNS: [Row; 7] = [
     Row {
         words: &["run", "coin.qasm"],
         text: COIN,
@@ -68,7 +71,85 @@ const ROWS: [Row; 10] = [
         err: "E0 coin.qasm form\n",
     },
     Row {
+        words: &["run", "coin.qasm"],
+        text: "",
+        status: 1,
+        out: "",
+        err: "E0 coin.qasm form\n",
+    },
+    Row {
         words: &["run", "other.qasm"],
+        text: COIN,
+        status: 4,
+        out: "",
+        err: "S1 shelf other.qasm\n",
+    },
+];
+
+/// What is answered to `format`.
+const FORMATS: [Row; 4] = [
+    Row {
+        words: &["format", "coin.qasm"],
+        text: "OPENQASM 3;const int n=0x1F;bit[4] b=\"0_1_01\";",
+        status: 0,
+        out: "OPENQASM 3;\nconst int n = 31;\nbit[4] b = \"0101\";\n",
+        err: "",
+    },
+    Row {
+        words: &["format", "coin.qasm"],
+        text: "",
+        status: 0,
+        out: "",
+        err: "",
+    },
+    Row {
+        words: &["format", "coin.qasm"],
+        text: "qubit[2]q;//x\nif(true){x q[0];}",
+        status: 0,
+        out: "qubit[2] q;\nif (true) {\n  x q[0];\n}\n",
+        err: "",
+    },
+    Row {
+        words: &["format", "coin.qasm"],
+        text: COIN,
+        status: 0,
+        out: COIN,
+        err: "",
+    },
+];
+
+/// Texts, names and words that are refused.
+const REFUSALS: [Row; 9] = [
+    Row {
+        words: &["run", "coin.qasm"],
+        text: "bit μ;",
+        status: 1,
+        out: "",
+        err: "E3 coin.qasm:1:5 token\n",
+    },
+    Row {
+        words: &["run", "coin.qasm"],
+        text: "OPENQASM 3.0;\ninclude \"stdgates.inc\";\nqubit q;\nh q",
+        status: 1,
+        out: "",
+        err: "E4 coin.qasm:4:4 syntax\n",
+    },
+    Row {
+        words: &["format", "coin.qasm"],
+        text: "OPENQASM 3.0;\ninclude \"stdgates.inc\";\nfloat f;\n",
+        status: 1,
+        out: "",
+        err: "E6 coin.qasm:3:1 profile float\n",
+    },
+    Row {
+        words: &["format", "coin.qasm"],
+        text: "@here x q;",
+        status: 1,
+        out: "",
+        err: "E6 coin.qasm:1:1 profile annotation\n",
+    },
+    Row {
+        words: &["format", "other.qasm"],
         text: COIN,
         status: 4,
         out: "",
@@ -93,7 +174,7 @@ const ROWS: [Row; 10] = [
         text: COIN,
         status: 2,
         out: "",
-        err: "W1 words\n",
+        err: "W2 mode paint\n",
     },
     Row {
         words: &["run", "coin.qasm", "coin.qasm"],
@@ -112,9 +193,8 @@ fn owned(alloc: Global, words: &[&str]) -> Result<Vec<String>, AllocError> {
     Ok(all)
 }
 
-#[test]
-fn each_row(rt: HostRuntime) -> Result<(), Fail> {
-    for row in ROWS.iter() {
+fn runs_as_told(rt: &HostRuntime, rows: &[Row]) -> Result<(), Fail> {
+    for row in rows {
         let words = owned(rt.alloc(), row.words)?;
         let mut shelf = MemoryShelf::new(rt.alloc());
         shelf.add_text("coin.qasm", row.text.as_bytes())?;
@@ -128,15 +208,38 @@ fn each_row(rt: HostRuntime) -> Result<(), Fail> {
     Ok(())
 }
 
-/// A text that isn't UTF-8, one that is longer than any text may be, and one that the shelf lacks but doesn't miss.
 #[test]
-fn texts_of_no_form(rt: HostRuntime) -> Result<(), Fail> {
+fn runs(rt: HostRuntime) -> Result<(), Fail> {
+    runs_as_told(&rt, &RUNS)
+}
+
+#[test]
+fn formats(rt: HostRuntime) -> Result<(), Fail> {
+    runs_as_told(&rt, &FORMATS)
+}
+
+#[test]
+fn refusals(rt: HostRuntime) -> Result<(), Fail> {
+    runs_as_told(&rt, &REFUSALS)
+}
+
+/// A text that isn't UTF-8, one that is longer than any text may be, one of the longest that may be, and none at all.
+#[test]
+fn texts_that_are_not_read(rt: HostRuntime) -> Result<(), Fail> {
     let words = owned(rt.alloc(), &["run", "p.qasm"])?;
     let mut long = Vec::from_slice(rt.alloc(), COIN.as_bytes())?;
-    for _ in 0..1048577u32 {
+    while long.len() < 1048576 {
         long.push(b'\n')?;
     }
-    for text in [&[0xffu8][..], long.as_slice(), b""] {
+    let mut longer = Vec::from_slice(rt.alloc(), long.as_slice())?;
+    longer.push(b'\n')?;
+    for (text, line) in [
+        (&[0xffu8][..], "E1 p.qasm utf8 0\n"),
+        (&b"bit \xcf;"[..], "E1 p.qasm utf8 4\n"),
+        (longer.as_slice(), "E2 p.qasm long\n"),
+        (long.as_slice(), "E0 p.qasm form\n"),
+        (b"", "E0 p.qasm form\n"),
+    ] {
         let mut shelf = SureShelf::new(rt.alloc());
         shelf.add_text("p.qasm", text)?;
         let mut out = SureSink::new(rt.alloc());
@@ -146,8 +249,20 @@ fn texts_of_no_form(rt: HostRuntime) -> Result<(), Fail> {
             1
         );
         assert_eq!(rt; out.bytes(), "".as_bytes());
-        assert_eq!(rt; err.bytes(), "E0 p.qasm form\n".as_bytes());
+        assert_eq!(rt; err.bytes(), line.as_bytes());
     }
+    Ok(())
+}
+
+/// The canonical text by itself, and the refusals in its place.
+#[test]
+fn formatted(rt: HostRuntime) -> Result<(), Fail> {
+    let mut shelf = MemoryShelf::new(rt.alloc());
+    shelf.add_text("p.qasm", "qubit q;h q;".as_bytes())?;
+    let text = format_text(rt.alloc(), &mut shelf, "p.qasm");
+    assert!(rt; matches!(&text, Ok(text) if text.as_str() == "qubit q;\nh q;\n"));
+    let missing = format_text(rt.alloc(), &mut shelf, "q.qasm");
+    assert!(rt; matches!(&missing, Err(HostRefusal::Shelf(name)) if name.text() == "q.qasm"));
     Ok(())
 }
 

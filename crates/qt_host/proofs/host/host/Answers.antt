@@ -1,36 +1,35 @@
-use Rattle.std.proofs.Common.{◌≡◌, ◌∙◌, inr, string_bytes}
-use Rattle.qt_host.proofs.Answers.{said_report, said_form}
+use Rattle.std.proofs.Common.{◌≡◌, ◌∙◌, inr, subst, sym, map, string_bytes}
+use Rattle.qt_outside.specs.Causes.{text_of}
+use Rattle.qt_host.specs.Puts.{seen, PutsLine}
+use Rattle.qt_host.specs.Steps.{mode_word, IsAnswer}
+use Rattle.qt_host.proofs.Answers.{said, told, line_of_status}
 use Rattle.qt_host.proofs.host.host.Goals as goal
 
-pub returns-in-Err-report_of-clause-form : goal.returns-in-Err-report_of-clause-form
-returns-in-Err-report_of-clause-form g c = λ texts told one. (
-  c.in-Some.name.now,
-  said_form _ texts c.in-Some.name.now c.as_slice.result.now c.in-Err-report_of.fault _ c.in-Some.ensures (c.as_slice.ensures.value ∙ c.in-Ok.ensures.text texts told) c.in-Err-report_of.ensures c.tell-in-Err-report_of.ensures.status one,
-)
+pub returns-in-Err-clause-refusal : goal.returns-in-Err-clause-refusal
+returns-in-Err-clause-refusal g c = λ texts tells one.
+    let words = map string_bytes c.args.words.now in
+    let why = c.in-Err.ensures.answer texts tells in
+    (c.tell.ensures.0, told words texts c.in-Some.request.name.now c.in-Some.request.mode c.in-Err.refusal c.tell.result c.tell.ensures.0 c.in-Some.ensures why c.tell.ensures.1 one, c.tell.ensures.2)
 
-pub returns-in-Ok-put_lines-clause-report : goal.returns-in-Ok-put_lines-clause-report
-returns-in-Ok-put_lines-clause-report g c = λ texts told zero. (
-  c.as_bytes.result.now,
-  said_report _ texts c.in-Some.name.now c.as_slice.result.now (string_bytes c.in-Ok-report_of.report) c.as_bytes.result.now c.in-Some.ensures (c.as_slice.ensures.value ∙ c.in-Ok.ensures.text texts told) c.in-Ok-report_of.ensures c.as_bytes.ensures.value,
-  c.in-Ok-put_lines.ensures.ok,
-)
+pub returns-in-Err-clause-line : goal.returns-in-Err-clause-line
+returns-in-Err-clause-line g c = λ some other.
+    let words = map string_bytes c.args.words.now in
+    let same = line_of_status words (mode_word c.in-Some.request.mode) c.in-Some.request.name.now _ _ _ c.in-Err.refusal c.tell.result c.tell.ensures.0 c.in-Some.ensures c.in-Err.ensures.shelf c.tell.ensures.1 other in
+    subst (PutsLine _ _) same c.tell.ensures.2
+
+pub returns-in-Ok-put_lines-clause-answer : goal.returns-in-Ok-put_lines-clause-answer
+returns-in-Ok-put_lines-clause-answer g c = λ texts tells zero.
+    let is = subst (IsAnswer c.in-Some.request.mode (text_of texts c.in-Some.request.name.now)) (sym c.as_bytes.ensures.value) (c.in-Ok.ensures.answer texts tells) in
+    (c.as_bytes.result.now, said (map string_bytes c.args.words.now) texts c.in-Some.request.name.now c.in-Some.request.mode c.as_bytes.result.now c.in-Some.ensures is, c.in-Ok-put_lines.ensures.ok)
 
 pub returns-in-Err-Failed-clause-sink_part : goal.returns-in-Err-Failed-clause-sink_part
-returns-in-Err-Failed-clause-sink_part g c = λ texts told five.
-    let cut = rw c.in-Err-Failed.field-0-is at c.in-Err-Failed.ensures.refused in (
-      c.as_bytes.result.now,
-      said_report _ texts c.in-Some.name.now c.as_slice.result.now (string_bytes c.in-Ok-report_of.report) c.as_bytes.result.now c.in-Some.ensures (c.as_slice.ensures.value ∙ c.in-Ok.ensures.text texts told) c.in-Ok-report_of.ensures c.as_bytes.ensures.value,
-      cut.0,
-    )
+returns-in-Err-Failed-clause-sink_part g c = λ texts tells five.
+    let is = subst (IsAnswer c.in-Some.request.mode (text_of texts c.in-Some.request.name.now)) (sym c.as_bytes.ensures.value) (c.in-Ok.ensures.answer texts tells) in
+    let cut = rw c.in-Err-Failed.field-0-is at c.in-Err-Failed.ensures.refused in
+    (c.as_bytes.result.now, said (map string_bytes c.args.words.now) texts c.in-Some.request.name.now c.in-Some.request.mode c.as_bytes.result.now c.in-Some.ensures is, cut.0)
 
 pub returns-clause-memory_part : goal.returns-clause-memory_part
-returns-clause-memory_part g c = λ texts told six.
+returns-clause-memory_part g c = λ texts tells six.
+    let is = subst (IsAnswer c.in-Some.request.mode (text_of texts c.in-Some.request.name.now)) (sym c.as_bytes.ensures.value) (c.in-Ok.ensures.answer texts tells) in
     let cut = rw c.in-Err-OutOfMemory.field-0-is at c.in-Err-OutOfMemory.ensures.refused in
-    inr (
-      (
-        c.as_bytes.result.now,
-        said_report _ texts c.in-Some.name.now c.as_slice.result.now (string_bytes c.in-Ok-report_of.report) c.as_bytes.result.now c.in-Some.ensures (c.as_slice.ensures.value ∙ c.in-Ok.ensures.text texts told) c.in-Ok-report_of.ensures c.as_bytes.ensures.value,
-        cut.0,
-      ),
-      cut.1,
-    )
+    inr ((c.as_bytes.result.now, said (map string_bytes c.args.words.now) texts c.in-Some.request.name.now c.in-Some.request.mode c.as_bytes.result.now c.in-Some.ensures is, cut.0), cut.1)
