@@ -8,7 +8,7 @@ use qt_tree::program::{GateForm, Item, ListItem, Parameter, Program, VersionNumb
 use qt_tree::statement::{
     CalledGate, GateCall, Modifier, Operand, Right, Sequence, Statement, StatementForm, Target,
 };
-use sqlite_items::Items;
+use sqlite_items::{Boxed, Items};
 use std::alloc::{AllocError, Global};
 use std::test::*;
 
@@ -124,17 +124,21 @@ fn sized(alloc: Global, word: &str, size: Option<&Expr>) -> Result<String, Alloc
     }
 }
 
-fn scalar(alloc: Global, scalar: &Scalar) -> Result<String, AllocError> {
-    let (word, size) = match scalar {
-        Scalar::Bool => ("bool", &None),
-        Scalar::Bit { size } => ("bit", size),
-        Scalar::Int { size } => ("int", size),
-        Scalar::Uint { size } => ("uint", size),
-        Scalar::Angle { size } => ("angle", size),
-    };
+/// The same of a size that is kept in a box.
+fn boxed(alloc: Global, word: &str, size: &Option<Boxed<Expr>>) -> Result<String, AllocError> {
     match size {
         None => String::from_str(alloc, word),
         Some(size) => sized(alloc, word, Some(size.get())),
+    }
+}
+
+fn scalar(alloc: Global, scalar: &Scalar) -> Result<String, AllocError> {
+    match scalar {
+        Scalar::Bool => String::from_str(alloc, "bool"),
+        Scalar::Bit { size } => boxed(alloc, "bit", size),
+        Scalar::Int { size } => boxed(alloc, "int", size),
+        Scalar::Uint { size } => boxed(alloc, "uint", size),
+        Scalar::Angle { size } => boxed(alloc, "angle", size),
     }
 }
 

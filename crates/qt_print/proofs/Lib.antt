@@ -3,8 +3,3 @@ pub mod Equations
 pub mod Lines
 pub mod Items
 pub mod Texts
-pub mod Moved
-pub mod Lexing
-pub mod Numerals
-pub mod Leads
-pub mod Laid

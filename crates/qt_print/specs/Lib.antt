@@ -6,4 +6,3 @@ pub mod Statements
 pub mod Programs
 pub mod Text
 pub mod Page
-pub mod Tokens

@@ -5,12 +5,10 @@
 //! each form in the order of the grammar, and the lines of statements; `specs/Spacing.antt` says between which two words of a line
 //! the one space stands, by what each word is to its neighbours, its [`role::Role`]; `specs/Text.antt` makes the text of the lines.
 //! Numbers are printed in decimal and bit strings by their digits, so what was written in another way is printed in one.
-//! [`laws::lexes_again`] says that the lexer finds the words of the text again, neither joined nor cut.
 //! The command that formats a text prints its tree with this crate.
 #![tactic(auto)]
 
 mod expression;
-pub mod laws;
 mod literal;
 mod page;
 pub mod program;
