@@ -223,46 +223,50 @@ fn refusals(rt: HostRuntime) -> Result<(), Fail> {
     runs_as_told(&rt, &REFUSALS)
 }
 
-/// A text that isn't UTF-8, one that is longer than any text may be, one of the longest that may be, and none at all.
-#[test]
-fn texts_that_are_not_read(rt: HostRuntime) -> Result<(), Fail> {
+/// Runs a text that is refused, over fakes that never fail.
+fn is_told(rt: &HostRuntime, text: &[u8], line: &str) -> Result<(), Fail> {
     let words = owned(rt.alloc(), &["run", "p.qasm"])?;
-    let mut long = Vec::from_slice(rt.alloc(), COIN.as_bytes())?;
-    while long.len() < 1048576 {
-        long.push(b'\n')?;
-    }
-    let mut longer = Vec::from_slice(rt.alloc(), long.as_slice())?;
-    longer.push(b'\n')?;
-    for (text, line) in [
-        (&[0xffu8][..], "E1 p.qasm utf8 0\n"),
-        (&b"bit \xcf;"[..], "E1 p.qasm utf8 4\n"),
-        (longer.as_slice(), "E2 p.qasm long\n"),
-        (long.as_slice(), "E0 p.qasm form\n"),
-        (b"", "E0 p.qasm form\n"),
-    ] {
-        let mut shelf = SureShelf::new(rt.alloc());
-        shelf.add_text("p.qasm", text)?;
-        let mut out = SureSink::new(rt.alloc());
-        let mut err = SureSink::new(rt.alloc());
-        assert_eq!(rt;
-            host(rt.alloc(), words.as_slice(), &mut shelf, &mut out, &mut err),
-            1
-        );
-        assert_eq!(rt; out.bytes(), "".as_bytes());
-        assert_eq!(rt; err.bytes(), line.as_bytes());
-    }
+    let mut shelf = SureShelf::new(rt.alloc());
+    shelf.add_text("p.qasm", text)?;
+    let mut out = SureSink::new(rt.alloc());
+    let mut err = SureSink::new(rt.alloc());
+    assert_eq!(rt;
+        host(rt.alloc(), words.as_slice(), &mut shelf, &mut out, &mut err),
+        1
+    );
+    assert_eq!(rt; out.bytes(), "".as_bytes());
+    assert_eq!(rt; err.bytes(), line.as_bytes());
     Ok(())
 }
 
-/// The canonical text by itself, and the refusals in its place.
+/// Texts that aren't UTF-8, one that is longer than any text may be, one of the longest that may be, and none at all.
+#[test]
+fn texts_that_are_not_read(rt: HostRuntime) -> Result<(), Fail> {
+    let mut long = Vec::from_slice(rt.alloc(), COIN.as_bytes())?;
+    for _ in COIN.len()..1048576 {
+        long.push(b'\n')?;
+    }
+    is_told(&rt, long.as_slice(), "E0 p.qasm form\n")?;
+    long.push(b'\n')?;
+    is_told(&rt, long.as_slice(), "E2 p.qasm long\n")?;
+    is_told(&rt, b"\xff", "E1 p.qasm utf8 0\n")?;
+    is_told(&rt, b"bit \xcf;", "E1 p.qasm utf8 4\n")?;
+    is_told(&rt, b"", "E0 p.qasm form\n")
+}
+
+/// The canonical text by itself, and the shelf's fault in its place.
 #[test]
 fn formatted(rt: HostRuntime) -> Result<(), Fail> {
     let mut shelf = MemoryShelf::new(rt.alloc());
     shelf.add_text("p.qasm", "qubit q;h q;".as_bytes())?;
-    let text = format_text(rt.alloc(), &mut shelf, "p.qasm");
-    assert!(rt; matches!(&text, Ok(text) if text.as_str() == "qubit q;\nh q;\n"));
-    let missing = format_text(rt.alloc(), &mut shelf, "q.qasm");
-    assert!(rt; matches!(&missing, Err(HostRefusal::Shelf(name)) if name.text() == "q.qasm"));
+    match format_text(rt.alloc(), &mut shelf, "p.qasm") {
+        Ok(text) => assert_eq!(rt; text.as_str(), "qubit q;\nh q;\n"),
+        Err(_) => return Err(Fail::from("a program is refused")),
+    }
+    match format_text(rt.alloc(), &mut shelf, "q.qasm") {
+        Err(HostRefusal::Shelf(name)) => assert_eq!(rt; name.text(), "q.qasm"),
+        _ => return Err(Fail::from("a missing text is answered")),
+    }
     Ok(())
 }
 

@@ -87,27 +87,24 @@ fn lines_of_refusals(rt: HostRuntime) -> Result<(), Fail> {
     Ok(())
 }
 
-/// Texts that are refused, and why.
+/// Whether the text with the number 3 is refused so.
+fn is_refused(alloc: Global, text: &[u8], refusal: &TextRefusal) -> bool {
+    match read(alloc, "p", 3, text) {
+        Ok(_) => false,
+        Err(found) => found == *refusal,
+    }
+}
+
 #[test]
 fn refused_texts(rt: HostRuntime) -> Result<(), Fail> {
-    for (text, refusal) in [
-        (
-            &b"\xff"[..],
-            TextRefusal::E1(Label::new(rt.alloc(), "p")?, 0),
-        ),
-        (
-            &b"h q; \xc3"[..],
-            TextRefusal::E1(Label::new(rt.alloc(), "p")?, 5),
-        ),
-        (&b"h q; /*"[..], TextRefusal::E3(place(3, 1, 6))),
-        (&b"h q"[..], TextRefusal::E4(place(3, 1, 4))),
-        (
-            &b"delay[10ns] q;"[..],
-            TextRefusal::E6(place(3, 1, 1), Feature::Delay),
-        ),
-    ] {
-        assert!(rt; matches!(read(rt.alloc(), "p", 3, text), Err(found) if found == refusal));
-    }
+    let no_utf8 = TextRefusal::E1(Label::new(rt.alloc(), "p")?, 0);
+    assert!(rt; is_refused(rt.alloc(), b"\xff", &no_utf8));
+    let cut = TextRefusal::E1(Label::new(rt.alloc(), "p")?, 5);
+    assert!(rt; is_refused(rt.alloc(), b"h q; \xc3", &cut));
+    assert!(rt; is_refused(rt.alloc(), b"h q; /*", &TextRefusal::E3(place(3, 1, 6))));
+    assert!(rt; is_refused(rt.alloc(), b"h q", &TextRefusal::E4(place(3, 1, 4))));
+    let feature = TextRefusal::E6(place(3, 1, 1), Feature::Delay);
+    assert!(rt; is_refused(rt.alloc(), b"delay[10ns] q;", &feature));
     Ok(())
 }
 
