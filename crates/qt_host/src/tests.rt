@@ -193,50 +193,51 @@ fn owned(alloc: Global, words: &[&str]) -> Result<Vec<String>, AllocError> {
     Ok(all)
 }
 
-fn runs_as_told(rt: &HostRuntime, rows: &[Row]) -> Result<(), Fail> {
-    for row in rows {
-        let words = owned(rt.alloc(), row.words)?;
-        let mut shelf = MemoryShelf::new(rt.alloc());
-        shelf.add_text("coin.qasm", row.text.as_bytes())?;
-        let mut out = MemorySink::new(rt.alloc());
-        let mut err = MemorySink::new(rt.alloc());
-        let status = host(rt.alloc(), words.as_slice(), &mut shelf, &mut out, &mut err);
-        assert_eq!(rt; out.bytes(), row.out.as_bytes());
-        assert_eq!(rt; err.bytes(), row.err.as_bytes());
-        assert_eq!(rt; status, row.status);
+/// Whether a row comes as it tells.
+fn is_as_told(alloc: Global, row: &Row) -> Result<bool, Fail> {
+    let words = owned(alloc, row.words)?;
+    let mut shelf = MemoryShelf::new(alloc);
+    shelf.add_text("coin.qasm", row.text.as_bytes())?;
+    let mut out = MemorySink::new(alloc);
+    let mut err = MemorySink::new(alloc);
+    let status = host(alloc, words.as_slice(), &mut shelf, &mut out, &mut err);
+    let texts = out.bytes() == row.out.as_bytes() && err.bytes() == row.err.as_bytes();
+    Ok(texts && status == row.status)
+}
+
+#[test]
+fn runs(rt: HostRuntime) -> Result<(), Fail> {
+    for row in RUNS.iter() {
+        assert!(rt; is_as_told(rt.alloc(), row)?, "{}", row.text);
     }
     Ok(())
 }
 
 #[test]
-fn runs(rt: HostRuntime) -> Result<(), Fail> {
-    runs_as_told(&rt, &RUNS)
-}
-
-#[test]
 fn formats(rt: HostRuntime) -> Result<(), Fail> {
-    runs_as_told(&rt, &FORMATS)
+    for row in FORMATS.iter() {
+        assert!(rt; is_as_told(rt.alloc(), row)?, "{}", row.text);
+    }
+    Ok(())
 }
 
 #[test]
 fn refusals(rt: HostRuntime) -> Result<(), Fail> {
-    runs_as_told(&rt, &REFUSALS)
+    for row in REFUSALS.iter() {
+        assert!(rt; is_as_told(rt.alloc(), row)?, "{}", row.err);
+    }
+    Ok(())
 }
 
-/// Runs a text that is refused, over fakes that never fail.
-fn is_told(rt: &HostRuntime, text: &[u8], line: &str) -> Result<(), Fail> {
-    let words = owned(rt.alloc(), &["run", "p.qasm"])?;
-    let mut shelf = SureShelf::new(rt.alloc());
+/// Whether a text is refused by that line, over fakes that never fail.
+fn is_refused(alloc: Global, text: &[u8], line: &str) -> Result<bool, Fail> {
+    let words = owned(alloc, &["run", "p.qasm"])?;
+    let mut shelf = SureShelf::new(alloc);
     shelf.add_text("p.qasm", text)?;
-    let mut out = SureSink::new(rt.alloc());
-    let mut err = SureSink::new(rt.alloc());
-    assert_eq!(rt;
-        host(rt.alloc(), words.as_slice(), &mut shelf, &mut out, &mut err),
-        1
-    );
-    assert_eq!(rt; out.bytes(), "".as_bytes());
-    assert_eq!(rt; err.bytes(), line.as_bytes());
-    Ok(())
+    let mut out = SureSink::new(alloc);
+    let mut err = SureSink::new(alloc);
+    let status = host(alloc, words.as_slice(), &mut shelf, &mut out, &mut err);
+    Ok(status == 1 && out.bytes().is_empty() && err.bytes() == line.as_bytes())
 }
 
 /// Texts that aren't UTF-8, one that is longer than any text may be, one of the longest that may be, and none at all.
@@ -246,12 +247,13 @@ fn texts_that_are_not_read(rt: HostRuntime) -> Result<(), Fail> {
     for _ in COIN.len()..1048576 {
         long.push(b'\n')?;
     }
-    is_told(&rt, long.as_slice(), "E0 p.qasm form\n")?;
+    assert!(rt; is_refused(rt.alloc(), long.as_slice(), "E0 p.qasm form\n")?);
     long.push(b'\n')?;
-    is_told(&rt, long.as_slice(), "E2 p.qasm long\n")?;
-    is_told(&rt, b"\xff", "E1 p.qasm utf8 0\n")?;
-    is_told(&rt, b"bit \xcf;", "E1 p.qasm utf8 4\n")?;
-    is_told(&rt, b"", "E0 p.qasm form\n")
+    assert!(rt; is_refused(rt.alloc(), long.as_slice(), "E2 p.qasm long\n")?);
+    assert!(rt; is_refused(rt.alloc(), b"\xff", "E1 p.qasm utf8 0\n")?);
+    assert!(rt; is_refused(rt.alloc(), b"bit \xcf;", "E1 p.qasm utf8 4\n")?);
+    assert!(rt; is_refused(rt.alloc(), b"", "E0 p.qasm form\n")?);
+    Ok(())
 }
 
 /// The canonical text by itself, and the shelf's fault in its place.
