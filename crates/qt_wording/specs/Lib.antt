@@ -1,0 +1,4 @@
+pub mod Spelling
+pub mod Faithful
+pub mod Written
+pub mod Places
