@@ -56,7 +56,7 @@ const OPERATORS: [(&str, &str, usize); 31] = [
 ];
 
 /// The same: primaries, where each item of a list has a comma behind it, and what ends an expression.
-const PRIMARIES: [(&str, &str, usize); 30] = [
+const PRIMARIES: [(&str, &str, usize); 33] = [
     ("0x1F", "31", 1),
     ("18446744073709551615", "18446744073709551615", 1),
     ("\"0101\"", "5/4", 1),
@@ -80,6 +80,9 @@ const PRIMARIES: [(&str, &str, usize); 30] = [
     ("a[1:]", "a[1:,]", 5),
     ("a[:2:3]", "a[:2:3,]", 7),
     ("a[1:2:]", "a[1:2:,]", 7),
+    ("a[:2]", "a[:2,]", 5),
+    ("a[:2:]", "a[:2:,]", 6),
+    ("a[1:2:3]", "a[1:2:3,]", 8),
     ("f()", "f()", 3),
     ("f(1, g(2)) + 3", "{f(1,g(2,),)+3}", 11),
     ("bool(a) == bit(b)", "{bool<a>==bit<b>}", 9),

@@ -8,6 +8,8 @@
 #![tactic(auto)]
 
 pub mod answer;
+#[cfg(test)]
+mod format_tests;
 pub mod host;
 pub mod laws;
 mod lines;

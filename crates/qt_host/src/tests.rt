@@ -119,7 +119,7 @@ const FORMATS: [Row; 4] = [
 ];
 
 /// Texts, names and words that are refused.
-const REFUSALS: [Row; 9] = [
+const REFUSALS: [Row; 13] = [
     Row {
         words: &["run", "coin.qasm"],
         text: "bit μ;",
@@ -136,6 +136,34 @@ const REFUSALS: [Row; 9] = [
     },
     Row {
         words: &["format", "coin.qasm"],
+        text: "OPENQASM 3.0;\ninclude \"stdgates.inc\";\nfloat f;\n",
+        status: 1,
+        out: "",
+        err: "E6 coin.qasm:3:1 profile float\n",
+    },
+    Row {
+        words: &["format", "coin.qasm"],
+        text: "qubit q;\nh q",
+        status: 1,
+        out: "",
+        err: "E4 coin.qasm:2:4 syntax\n",
+    },
+    Row {
+        words: &["format", "coin.qasm"],
+        text: "int i; i = (((((((((((((((((((((((((((((((((((((((((((((((((((((((((((((((((1",
+        status: 1,
+        out: "",
+        err: "E5 coin.qasm:1:77 nest\n",
+    },
+    Row {
+        words: &["format", "coin.qasm"],
+        text: "h q; /* not closed",
+        status: 1,
+        out: "",
+        err: "E3 coin.qasm:1:6 token\n",
+    },
+    Row {
+        words: &["run", "coin.qasm"],
         text: "OPENQASM 3.0;\ninclude \"stdgates.inc\";\nfloat f;\n",
         status: 1,
         out: "",
@@ -230,8 +258,8 @@ fn refusals(rt: HostRuntime) -> Result<(), Fail> {
 }
 
 /// Whether a text is refused by that line, over fakes that never fail.
-fn is_refused(alloc: Global, text: &[u8], line: &str) -> Result<bool, Fail> {
-    let words = owned(alloc, &["run", "p.qasm"])?;
+fn is_refused(alloc: Global, mode: &str, text: &[u8], line: &str) -> Result<bool, Fail> {
+    let words = owned(alloc, &[mode, "p.qasm"])?;
     let mut shelf = SureShelf::new(alloc);
     shelf.add_text("p.qasm", text)?;
     let mut out = SureSink::new(alloc);
@@ -247,12 +275,14 @@ fn texts_that_are_not_read(rt: HostRuntime) -> Result<(), Fail> {
     for _ in COIN.len()..1048576 {
         long.push(b'\n')?;
     }
-    assert!(rt; is_refused(rt.alloc(), long.as_slice(), "E0 p.qasm form\n")?);
+    assert!(rt; is_refused(rt.alloc(), "run", long.as_slice(), "E0 p.qasm form\n")?);
     long.push(b'\n')?;
-    assert!(rt; is_refused(rt.alloc(), long.as_slice(), "E2 p.qasm long\n")?);
-    assert!(rt; is_refused(rt.alloc(), b"\xff", "E1 p.qasm utf8 0\n")?);
-    assert!(rt; is_refused(rt.alloc(), b"bit \xcf;", "E1 p.qasm utf8 4\n")?);
-    assert!(rt; is_refused(rt.alloc(), b"", "E0 p.qasm form\n")?);
+    for mode in ["run", "format"] {
+        assert!(rt; is_refused(rt.alloc(), mode, long.as_slice(), "E2 p.qasm long\n")?);
+        assert!(rt; is_refused(rt.alloc(), mode, b"\xff", "E1 p.qasm utf8 0\n")?);
+        assert!(rt; is_refused(rt.alloc(), mode, b"bit \xcf;", "E1 p.qasm utf8 4\n")?);
+    }
+    assert!(rt; is_refused(rt.alloc(), "run", b"", "E0 p.qasm form\n")?);
     Ok(())
 }
 
@@ -272,28 +302,142 @@ fn formatted(rt: HostRuntime) -> Result<(), Fail> {
     Ok(())
 }
 
-/// Sinks that refuse a call: the call, how much they keep, and what is to come.
+/// A mode and a text whose answer goes to a sink that refuses a call and keeps so many bytes of it; the line goes to one that
+/// refuses its first call.
+struct Cut {
+    mode: &'static str,
+    text: &'static str,
+    call: u32,
+    kept: u32,
+    kept_of_line: u32,
+    status: u8,
+    out: &'static str,
+    err: &'static str,
+}
+
+const THREE_LINES: &str = "qubit q;h q;end;";
+
+const CUTS: [Cut; 10] = [
+    Cut {
+        mode: "run",
+        text: COIN,
+        call: 1,
+        kept: 0,
+        kept_of_line: 0,
+        status: 5,
+        out: "",
+        err: "",
+    },
+    Cut {
+        mode: "run",
+        text: COIN,
+        call: 1,
+        kept: 100,
+        kept_of_line: 100,
+        status: 5,
+        out: "c=0 (1+0r)/2^1\n",
+        err: "O1 sink\n",
+    },
+    Cut {
+        mode: "run",
+        text: COIN,
+        call: 2,
+        kept: 3,
+        kept_of_line: 100,
+        status: 5,
+        out: "c=0 (1+0r)/2^1\nc=1",
+        err: "O1 sink\n",
+    },
+    Cut {
+        mode: "run",
+        text: COIN,
+        call: 3,
+        kept: 6,
+        kept_of_line: 6,
+        status: 5,
+        out: "c=0 (1+0r)/2^1\nc=1 (1+0r)/2^1\ntotal ",
+        err: "O1 sin",
+    },
+    Cut {
+        mode: "run",
+        text: COIN,
+        call: 4,
+        kept: 0,
+        kept_of_line: 0,
+        status: 0,
+        out: "c=0 (1+0r)/2^1\nc=1 (1+0r)/2^1\ntotal (1+0r)/2^0\n",
+        err: "",
+    },
+    Cut {
+        mode: "format",
+        text: THREE_LINES,
+        call: 1,
+        kept: 3,
+        kept_of_line: 100,
+        status: 5,
+        out: "qub",
+        err: "O1 sink\n",
+    },
+    Cut {
+        mode: "format",
+        text: THREE_LINES,
+        call: 2,
+        kept: 0,
+        kept_of_line: 1,
+        status: 5,
+        out: "qubit q;\n",
+        err: "O",
+    },
+    Cut {
+        mode: "format",
+        text: THREE_LINES,
+        call: 3,
+        kept: 100,
+        kept_of_line: 100,
+        status: 5,
+        out: "qubit q;\nh q;\nend;\n",
+        err: "O1 sink\n",
+    },
+    Cut {
+        mode: "format",
+        text: THREE_LINES,
+        call: 4,
+        kept: 0,
+        kept_of_line: 0,
+        status: 0,
+        out: "qubit q;\nh q;\nend;\n",
+        err: "",
+    },
+    Cut {
+        mode: "format",
+        text: "h q",
+        call: 1,
+        kept: 0,
+        kept_of_line: 4,
+        status: 1,
+        out: "",
+        err: "E4 c",
+    },
+];
+
+/// Whether the sinks hold what is told.
+fn is_cut_so(alloc: Global, cut: &Cut) -> Result<bool, Fail> {
+    let words = owned(alloc, &[cut.mode, "coin.qasm"])?;
+    let mut shelf = MemoryShelf::new(alloc);
+    shelf.add_text("coin.qasm", cut.text.as_bytes())?;
+    let mut out = MemorySink::new(alloc);
+    out.fail_at(cut.call, cut.kept)?;
+    let mut err = MemorySink::new(alloc);
+    err.fail_at(1, cut.kept_of_line)?;
+    let status = host(alloc, words.as_slice(), &mut shelf, &mut out, &mut err);
+    let texts = out.bytes() == cut.out.as_bytes() && err.bytes() == cut.err.as_bytes();
+    Ok(texts && status == cut.status)
+}
+
 #[test]
 fn refusing_sinks(rt: HostRuntime) -> Result<(), Fail> {
-    let words = owned(rt.alloc(), &["run", "coin.qasm"])?;
-    for (call, kept, report, line) in [
-        (1, 0, "", ""),
-        (1, 100, "c=0 (1+0r)/2^1\n", "O1 sink\n"),
-        (2, 3, "c=0 (1+0r)/2^1\nc=1", "O1 "),
-        (3, 6, "c=0 (1+0r)/2^1\nc=1 (1+0r)/2^1\ntotal ", "O1 sin"),
-    ] {
-        let mut shelf = MemoryShelf::new(rt.alloc());
-        shelf.add_text("coin.qasm", COIN.as_bytes())?;
-        let mut out = MemorySink::new(rt.alloc());
-        out.fail_at(call, kept)?;
-        let mut err = MemorySink::new(rt.alloc());
-        err.fail_at(1, kept)?;
-        assert_eq!(rt;
-            host(rt.alloc(), words.as_slice(), &mut shelf, &mut out, &mut err),
-            5
-        );
-        assert_eq!(rt; out.bytes(), report.as_bytes());
-        assert_eq!(rt; err.bytes(), line.as_bytes());
+    for cut in CUTS.iter() {
+        assert!(rt; is_cut_so(rt.alloc(), cut)?, "{} {}", cut.mode, cut.call);
     }
     Ok(())
 }

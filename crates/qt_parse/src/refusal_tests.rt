@@ -213,6 +213,22 @@ fn spoiled(alloc: Global, tokens: &[Token], count: usize) -> Result<Vec<Token>, 
     Ok(spoiled)
 }
 
+/// The same tokens, but for one that is the text of three characters in quotes which begins at that byte.
+fn quoted(
+    alloc: Global,
+    tokens: &[Token],
+    count: usize,
+    start: usize,
+) -> Result<Vec<Token>, AllocError> {
+    let mut quoted = Vec::from_slice(alloc, tokens)?;
+    if let Some(token) = quoted.get_mut(count) {
+        token.kind = Kind::Text;
+        token.start = start;
+        token.end = start.saturating_add(3);
+    }
+    Ok(quoted)
+}
+
 fn refusal_of(alloc: Global, text: &str, tokens: &[Token]) -> Option<ParseRefusal> {
     parse(alloc, text, tokens).err()
 }
@@ -263,6 +279,29 @@ fn one_wrong_token(rt: HostRuntime) -> Result<(), Fail> {
             assert_eq!(rt;
                 refusal_of(rt.alloc(), text, &spoiled),
                 Some(want),
+                "{text}: {count}"
+            );
+        }
+    }
+    Ok(())
+}
+
+/// A text in quotes stands in no program but behind `include`.
+#[test]
+fn one_text_in_quotes(rt: HostRuntime) -> Result<(), Fail> {
+    for (text, _) in PROGRAMS {
+        let tokens = tokens_of(rt.alloc(), text)?;
+        let wide = format!(in rt.alloc(); "{text}'x'")?;
+        for (count, next) in tokens.iter().enumerate() {
+            let quoted = quoted(rt.alloc(), &tokens, count, text.len())?;
+            let want = if next.kind == Kind::Text {
+                None
+            } else {
+                Some(ParseRefusal::Syntax(next.place))
+            };
+            assert_eq!(rt;
+                refusal_of(rt.alloc(), &wide, &quoted),
+                want,
                 "{text}: {count}"
             );
         }
@@ -324,7 +363,7 @@ const ACCEPTED: [(&str, &str, usize, &str); 3] = [
 ];
 
 /// The same with a token too deep or an operator too many, in this column.
-const TOO_DEEP: [(&str, &str, usize, &str, u32); 8] = [
+const TOO_DEEP: [(&str, &str, usize, &str, u32); 12] = [
     ("x = ", "(", 65, "1", 70),
     ("x = ", "(", 100_000, "", 70),
     ("x = ", "-", 65, "1;", 70),
@@ -333,6 +372,10 @@ const TOO_DEEP: [(&str, &str, usize, &str, u32); 8] = [
     ("", "if (true) ", 65, "end;", 645),
     ("", "if (true) {", 65, "", 709),
     ("", "if (true) {", 64, "for int i in a { end; }", 722),
+    ("", "if(a)", 100_000, "", 324),
+    ("", "while(a){", 100_000, "", 583),
+    ("x = a", "[a", 100_000, "", 135),
+    ("array[int,1]z=", "{", 100_000, "", 80),
 ];
 
 /// The same with a stopper in this column.

@@ -3,7 +3,7 @@ use crate::read::read;
 use qt_tree::label::Label;
 use qt_tree::place::Place;
 use qt_tree::refusal::{Cause, Feature, TextRefusal};
-use std::alloc::Global;
+use std::alloc::{AllocError, Global};
 use std::test::Fail;
 
 fn place(file: u16, line: u32, column: u32) -> Place {
@@ -114,5 +114,112 @@ fn a_text_of_a_program(rt: HostRuntime) -> Result<(), Fail> {
     assert!(rt;
         matches!(&program, Ok(program) if program.items.len() == 1 && program.end == place(0, 3, 1))
     );
+    Ok(())
+}
+
+/// Texts that are hard to read, each with the line of its refusal, or with none where it is that of a program.
+const TEXTS: [(&[u8], &str); 29] = [
+    (b"", ""),
+    (b"h q;\r\nh q;\r\n", ""),
+    (b"h q;\rh", "E4 p:1:7 syntax\n"),
+    (b"\xef\xbb\xbfh q;", "E3 p:1:1 token\n"),
+    (b"h\0q;", "E3 p:1:2 token\n"),
+    (b"h q; /* a\n*", "E3 p:1:6 token\n"),
+    (b"h q; /*/", "E3 p:1:6 token\n"),
+    (b"include \"a\n\";", "E3 p:1:9 token\n"),
+    (b"include 'a\";", "E3 p:1:9 token\n"),
+    (b"\xc2\xb5", "E3 p:1:1 token\n"),
+    (b"x = 10 \xc2\xb5s;", "E3 p:1:8 token\n"),
+    (b"x = 10\xc2\xb5m;", "E3 p:1:7 token\n"),
+    (b"x = 10\xc2\xb5s;", "E6 p:1:5 profile timing\n"),
+    (
+        b"x = \xcf\x80 + \xcf\x84 \xe2\x84\x87;",
+        "E6 p:1:11 profile euler\n",
+    ),
+    (b"// \xcf\x80 \xe2\x84", "E1 p utf8 6\n"),
+    (b"//\xe2\x84;", "E1 p utf8 2\n"),
+    (b"h q;\xf0\x9f\x92;", "E1 p utf8 4\n"),
+    (b"h\xc0\x80", "E1 p utf8 1\n"),
+    (b"h q;\xed\xa0\x80", "E1 p utf8 4\n"),
+    (b"h q;\x80", "E1 p utf8 4\n"),
+    (b"\xf4\x90\x80\x80", "E1 p utf8 0\n"),
+    (b"? h\xff", "E1 p utf8 3\n"),
+    (b"h h h ?", "E3 p:1:7 token\n"),
+    (b"float f; ?", "E3 p:1:10 token\n"),
+    (b"x q", "E4 p:1:4 syntax\n"),
+    (b"x q\n", "E4 p:2:1 syntax\n"),
+    (b"float f;", "E6 p:1:1 profile float\n"),
+    (b"h q h float", "E4 p:1:5 syntax\n"),
+    (b"\n @bind x q;", "E6 p:2:2 profile annotation\n"),
+];
+
+/// The line of the refusal of a text, or the empty text where it is that of a program.
+fn line_of(alloc: Global, text: &[u8]) -> Result<String, Fail> {
+    match read(alloc, "p", 0, text) {
+        Ok(_) => Ok(String::new(alloc)),
+        Err(refusal) => {
+            let names = [Label::new(alloc, "p")?];
+            Ok(refusal_line(alloc, &names, &refusal)?)
+        }
+    }
+}
+
+#[test]
+fn hostile_texts(rt: HostRuntime) -> Result<(), Fail> {
+    for (text, line) in TEXTS {
+        assert_eq!(rt; line_of(rt.alloc(), text)?.as_str(), line);
+    }
+    Ok(())
+}
+
+/// Each beginning of a text of two declarations is that of a program, or is refused at its end.
+#[test]
+fn beginnings(rt: HostRuntime) -> Result<(), Fail> {
+    let text = b"qubit q; bit c;";
+    for count in 0..16 {
+        let line = if matches!(count, 0 | 8 | 9 | 15) {
+            String::new(rt.alloc())
+        } else {
+            let column = count + 1;
+            format!(in rt.alloc(); "E4 p:1:{column} syntax\n")?
+        };
+        let beginning = text.get(..count).ok_or("no beginning")?;
+        assert_eq!(rt; line_of(rt.alloc(), beginning)?.as_str(), line.as_str());
+    }
+    Ok(())
+}
+
+/// An assignment of 1 with a text repeated before it, and another behind it.
+fn nested(alloc: Global, before: &str, behind: &str, count: u32) -> Result<String, AllocError> {
+    let mut text = String::from_str(alloc, "int i; i = ")?;
+    for _ in 0..count {
+        text.push_str(before)?;
+    }
+    text.push('1')?;
+    for _ in 0..count {
+        text.push_str(behind)?;
+    }
+    text.push(';')?;
+    Ok(text)
+}
+
+#[test]
+fn nested_texts(rt: HostRuntime) -> Result<(), Fail> {
+    for (before, behind, count, line) in [
+        ("(", ")", 64, ""),
+        ("(", ")", 65, "E5 p:1:77 nest\n"),
+        ("(", "", 100_000, "E5 p:1:77 nest\n"),
+        ("-", "", 100_000, "E5 p:1:77 nest\n"),
+        ("a[", "", 100_000, "E5 p:1:142 nest\n"),
+        ("f(", "", 100_000, "E5 p:1:142 nest\n"),
+        ("2**", "", 100_000, "E5 p:1:207 nest\n"),
+        ("1+", "", 255, ""),
+        ("1+", "", 256, ""),
+        ("1+", "", 257, "E5 p:1:525 nest\n"),
+        ("1+", "", 100_000, "E5 p:1:525 nest\n"),
+    ] {
+        let text = nested(rt.alloc(), before, behind, count)?;
+        assert_eq!(rt; line_of(rt.alloc(), text.as_bytes())?.as_str(), line);
+    }
     Ok(())
 }

@@ -1,5 +1,5 @@
 #!/usr/bin/env python3
-"""Prints the tables of src/tests, reckoned with whole numbers of any size: `operators Add Sub ..`, `refused`, `unary` or `casts`."""
+"""Prints the tables of src/tests, reckoned with whole numbers of any size: `operators Add Sub ..`, `wholes`, `refused`, `unary` or `casts`."""
 
 import sys
 
@@ -170,6 +170,11 @@ SHIFTS = [
     (bit(1), BOOL), (sint(63), uint(8)), (uint(8), sint(64)),
 ]
 TURNS = [(bit(8), sint(8)), (uint(64), sint(8)), (bit(64), uint(64)), (uint(1), bit(8)), (uint(63), sint(64)), (bit(8), BOOL)]
+OTHER_SHIFTS = [
+    (bit(63), bit(64)), (bit(64), sint(63)), (sint(64), BOOL), (sint(1), bit(63)), (uint(63), BOOL),
+    (uint(64), bit(1)), (uint(1), uint(64)), (angle(1), BOOL), (angle(31), sint(64)), (angle(32), uint(63)),
+]
+OTHER_TURNS = [(bit(63), bit(64)), (uint(64), BOOL), (uint(63), uint(64))]
 CHOICES = [(0, 0), (0, 1), (3, 0), (4, 0), (1, 4), (2, 3), (5, 1), (0, 2), (4, 4), (3, 5), (5, 5), (6, 2)]
 COUNTS = [1, 7, 8, 0, 63, 64, -1, -9, 3, 65]
 
@@ -192,6 +197,9 @@ def rows():
                     a = pick(edges(left), 2 * i + j)
                     b = bits_of(right[1], pick(COUNTS, 3 * i + 5 * j))
                     yield op, left, a, right, b
+            others = OTHER_SHIFTS if op in ("<<", ">>") else OTHER_TURNS
+            for i, (left, right) in enumerate(others):
+                yield op, left, pick(edges(left), 3 * i), right, bits_of(right[1], pick(COUNTS, i))
             continue
         pairs = list(WHOLES)
         if op in COMPARISONS:
@@ -208,20 +216,32 @@ def rows():
                 yield op, left, pick(edges(left), x + number_of_op % 2), right, pick(edges(right), y)
 
 
+NUMBERS = ("|", "^", "&", "+", "-", "*")
+FALLIBLE = ("/", "%", "**")
+SORTS = [lambda n: BOOL, bit, sint, uint]
+
+
+WIDTHS = [(64, 63), (1, 64), (63, 64), (64, 1), (63, 1)]
+
+
+def whole_rows():
+    """Each pair of whole types twice, in other widths and with other edge values each time."""
+    pairs = [(make_left, make_right) for make_left in SORTS for make_right in SORTS for _ in range(2)]
+    for i, (make_left, make_right) in enumerate(pairs):
+        widths = pick(WIDTHS, i)
+        left, right = make_left(widths[0]), make_right(widths[1])
+        yield left, pick(edges(left), 3 * i), right, pick(edges(right), i + i // 7)
+
+
 SAMPLES = [BOOL, bit(8), sint(8), uint(8), angle(8), angle(32)]
 
 
-def refused_rows():
-    for op in ("&", "<", "<<", "*", "/", "rotl"):
-        for left in SAMPLES:
-            for right in SAMPLES:
-                try:
-                    apply(op, left, 1, right, 1)
-                except Refused:
-                    if right[1] == 8:
-                        yield op, left, right
-                except Divide:
-                    pass
+def is_refused(op, left, right):
+    try:
+        apply(op, left, 1, right, 1)
+    except Refused:
+        return True
+    return False
 
 
 CASTS = [BOOL, bit(8), bit(64), sint(8), uint(64), angle(8), angle(32)]
@@ -246,9 +266,26 @@ def print_operators():
         print(f"    ({WORDS[op]}, {kind_text(left)}, {a}, {kind_text(right)}, {b}, {result}),")
 
 
+def print_wholes():
+    for left, a, right, b in whole_rows():
+        kind = common(left, right)
+        numbers = [str(apply(op, left, a, right, b)[1]) for op in NUMBERS]
+        divisions = []
+        for op in FALLIBLE:
+            try:
+                divisions.append(f"Some({apply(op, left, a, right, b)[1]})")
+            except Divide:
+                divisions.append("None")
+        truths = [str(bool(apply(op, left, a, right, b)[1])).lower() for op in COMPARISONS]
+        operands = f"({kind_text(left)}, {a}), ({kind_text(right)}, {b}), {kind_text(kind)}"
+        print(f"    ({operands}, [{', '.join(numbers)}], [{', '.join(divisions)}], [{', '.join(truths)}]),")
+
+
 def print_refused():
-    for op, left, right in refused_rows():
-        print(f"    ({WORDS[op]}, {kind_text(left)}, {kind_text(right)}),")
+    for left in SAMPLES:
+        for right in SAMPLES:
+            refused = [WORDS[op] for op in WORDS if is_refused(op, left, right)]
+            print(f"    ({kind_text(left)}, {kind_text(right)}, &[{', '.join(refused)}]),")
 
 
 def print_unary():
@@ -274,5 +311,5 @@ def print_casts():
 
 
 if __name__ == "__main__":
-    tables = {"operators": print_operators, "refused": print_refused, "unary": print_unary, "casts": print_casts}
+    tables = {"operators": print_operators, "wholes": print_wholes, "refused": print_refused, "unary": print_unary, "casts": print_casts}
     tables[sys.argv[1]]()

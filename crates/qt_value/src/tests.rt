@@ -12,6 +12,7 @@ mod shifts;
 mod sums;
 mod unary;
 mod values;
+mod wholes;
 
 use crate::apply::apply;
 use crate::fault::ValueFault;
