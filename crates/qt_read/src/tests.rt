@@ -209,14 +209,14 @@ fn nested_texts(rt: HostRuntime) -> Result<(), Fail> {
         ("(", ")", 64, ""),
         ("(", ")", 65, "E5 p:1:77 nest\n"),
         ("(", "", 100_000, "E5 p:1:77 nest\n"),
-        ("-", "", 100_000, "E5 p:1:77 nest\n"),
-        ("a[", "", 100_000, "E5 p:1:142 nest\n"),
-        ("f(", "", 100_000, "E5 p:1:142 nest\n"),
-        ("2**", "", 100_000, "E5 p:1:207 nest\n"),
+        ("-", "", 1000, "E5 p:1:77 nest\n"),
+        ("a[", "", 1000, "E5 p:1:142 nest\n"),
+        ("f(", "", 1000, "E5 p:1:142 nest\n"),
+        ("2**", "", 1000, "E5 p:1:207 nest\n"),
         ("1+", "", 255, ""),
         ("1+", "", 256, ""),
         ("1+", "", 257, "E5 p:1:525 nest\n"),
-        ("1+", "", 100_000, "E5 p:1:525 nest\n"),
+        ("1+", "", 1000, "E5 p:1:525 nest\n"),
     ] {
         let text = nested(rt.alloc(), before, behind, count)?;
         assert_eq!(rt; line_of(rt.alloc(), text.as_bytes())?.as_str(), line);
