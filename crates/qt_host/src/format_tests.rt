@@ -134,7 +134,7 @@ const FORMS: [(&str, &str); 35] = [
 ];
 
 /// What stands in every gap of a sprawling text.
-const GAP: &str = "/* a \n * b **/\t// c \u{3c0}\r\n  ";
+const GAP: &str = " /* a \n * b **/\t// c \u{3c0}\r\n  ";
 
 /// The tokens of a text, with comments in every gap.
 fn sprawling(alloc: Global, text: &str) -> Result<Vec<u8>, Fail> {
