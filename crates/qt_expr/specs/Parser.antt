@@ -23,6 +23,16 @@ abbrev pub Steps : {A : Type 0} → Outcome A → A → Result ℕ Refusal → T
 Steps out x (Ok behind) = out ≡ Ok (x, behind)
 Steps out x (Err e) = out ≡ Err e
 
+-- the same, where something was read before the token
+abbrev pub Ends : {A B : Type 0} → Outcome A → A → B → Result (B × ℕ) Refusal → Type 0
+Ends out x before (Ok read) = (out ≡ Ok (x, read.1)) × (read.0 ≡ before)
+Ends out x before (Err e) = out ≡ Err e
+
+-- what was read before something, and that
+abbrev pub Adds : {A B : Type 0} → A → Result (B × ℕ) Refusal → Result ((A × B) × ℕ) Refusal → Type 0
+Adds before found (Ok both) = (found ≡ Ok (both.0.1, both.1)) × (both.0.0 ≡ before)
+Adds before found (Err e) = found ≡ Err e
+
 -- how many operators an expression has at most that stands in no other
 abbrev pub cap : ℕ
 cap = 256

@@ -5,7 +5,8 @@ ghost use Rattle.qt_grammar.specs.Outcome.{Says};
 ghost use Rattle.qt_expr.specs.Parser.{read_expression, read_expressions, read_in_parentheses, read_size, read_arguments, read_scalar, read_index, read_indexes, read_all_indexes, read_set, read_range, read_operation, read_more_operands};
 
 use crate::nesting::Nesting;
-use crate::operator::{STRENGTHS, binary, binary_operator, operator};
+use crate::operator::{STRENGTHS, before_operator, binary, binary_operator};
+use crate::pieces::together;
 use crate::reader::Reader;
 use qt_grammar::refusal::Refusal;
 use qt_tree::expression::{Expr, Index, Range, Scalar};
@@ -53,9 +54,10 @@ fn more_operands(
         let Some(found) = binary_operator(strength, tokens.word(at)) else {
             return Ok((left, at));
         };
-        let behind = operator(tokens, nesting, at)?;
-        let (right, behind) = operation(alloc, tokens, nesting, strength + 1, behind)?;
-        left = binary(alloc, found, left, right)?;
+        let (before, behind) = before_operator(tokens, nesting, left, at)?;
+        let right = operation(alloc, tokens, nesting, strength + 1, behind);
+        let ((before, right), behind) = together(before, right)?;
+        left = binary(alloc, found, before, right)?;
         at = behind;
     }
     Ok((left, at))

@@ -12,6 +12,7 @@ ghost use Rattle.qt_expr.specs.Nested.{Nests};
 ghost use Rattle.qt_expr.specs.Parser.{read_all_indexes, read_behind_start, read_index, read_index_form, read_index_list, read_indexes, read_place_or_range, read_range, read_range_form, rest_separated, rest_some};
 
 use crate::nesting::{Nesting, too_deep};
+use crate::pieces::{ended, together};
 use crate::reader::Reader;
 use crate::sign::{begins_expression, behind, next_is, sign};
 use qt_grammar::refusal::Refusal;
@@ -43,18 +44,21 @@ impl<
         requires { Nests (nesting.levels + 1) (F.pre self.now.operation) (F.post self.now.operation) }
         ensures { Says (read_behind_start tokens.now nesting.levels nesting.outer start at) result }
     {
-        let at = sign(tokens, at, Word::Colon)?;
+        let (start, at) = ended(tokens, start, at, Word::Colon)?;
         if !begins_expression(tokens.word(at)) {
             let (step, end) = (None, None);
             return Ok((Range { start, step, end }, at));
         }
-        let (second, at) = self.expression(tokens, nesting, at)?;
+        let ((start, second), at) = together(start, self.expression(tokens, nesting, at))?;
         if !next_is(tokens, at, Word::Colon) {
             let (step, end) = (None, Some(second));
             return Ok((Range { start, step, end }, at));
         }
-        let at = sign(tokens, at, Word::Colon)?;
-        let (end, at) = self.expression_or_none(tokens, nesting, at)?;
+        let (read, at) = ended(tokens, (start, second), at, Word::Colon)?;
+        let (((start, second), end), at) = together(
+            read,
+            self.expression_or_none(tokens, nesting, at),
+        )?;
         let step = Some(second);
         Ok((Range { start, step, end }, at))
     }
@@ -212,8 +216,7 @@ impl<
     {
         let at = sign(tokens, at, Word::LeftBracket)?;
         let (inner, at) = self.index_list(tokens, nesting, at)?;
-        let at = sign(tokens, at, Word::RightBracket)?;
-        Ok((inner, at))
+        ended(tokens, inner, at, Word::RightBracket)
     }
 
     /// Brackets with indexes, one after the other, at least one.

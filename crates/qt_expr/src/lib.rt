@@ -15,6 +15,7 @@ mod literal;
 pub mod nesting;
 mod operator;
 pub mod parse_expr;
+pub mod pieces;
 mod primary;
 mod reader;
 pub mod refusal;

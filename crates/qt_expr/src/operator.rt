@@ -91,6 +91,34 @@ pub fn operator(tokens: &TokenStream<'_>, nesting: Nesting, at: usize) -> Result
     }
 }
 
+/// What was read, and the place behind the operator that follows it.
+pub fn before_operator<T: Drop>(
+    tokens: &TokenStream<'_>,
+    nesting: Nesting,
+    read: T,
+    at: usize,
+) -> Result<(T, usize), Refusal>
+    requires { 0 < word_at (stream tokens.now) at }
+    ensures fits { IfOk result (λ found. form.within cap nesting.outer ((stream tokens.now at).operators) ≡ true) }
+    ensures place { IfOk result (λ found. found ≡ (read, at + 1)) }
+    ensures one_too_many { IfErr result (λ refusal. form.within cap nesting.outer ((stream tokens.now at).operators) ≡ false) }
+    ensures refusal { IfErr result (λ refusal. refusal ≡ Nest at) }
+{
+    let behind = operator(tokens, nesting, at)?;
+    Ok((read, behind))
+}
+
+/// Both in boxes.
+fn both_boxed<A: Drop, B: Drop>(
+    alloc: Global,
+    left: A,
+    right: B,
+) -> Result<(Boxed<A>, Boxed<B>), AllocError>
+    ensures { IfOk result (λ both. both ≡ (left, right)) }
+{
+    Ok((Boxed::new(alloc, left)?, Boxed::new(alloc, right)?))
+}
+
 /// A binary operator between its operands.
 pub fn binary(
     alloc: Global,
@@ -100,9 +128,10 @@ pub fn binary(
 ) -> Result<Expr, AllocError>
     ensures { IfOk result (λ made. made ≡ e.Binary operator left right) }
 {
+    let (left, right) = both_boxed(alloc, left, right)?;
     Ok(Expr::Binary {
         operator,
-        left: Boxed::new(alloc, left)?,
-        right: Boxed::new(alloc, right)?,
+        left,
+        right,
     })
 }

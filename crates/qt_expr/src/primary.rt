@@ -11,7 +11,8 @@ ghost use Rattle.qt_expr.specs.Parser.{read_cast, read_dimension, read_factor, r
 
 use crate::literal::literal;
 use crate::nesting::{Nesting, too_deep};
-use crate::operator::{binary, operator, unary_operator};
+use crate::operator::{before_operator, binary, operator, unary_operator};
+use crate::pieces::{boxed, ended, together};
 use crate::reader::Reader;
 use crate::sign::{behind, label, next_is, sign};
 use qt_grammar::refusal::Refusal;
@@ -88,8 +89,8 @@ impl<
         ensures { Says (read_cast tokens.now nesting.levels nesting.outer at) result }
     {
         let (to, at) = self.scalar(tokens, nesting, at)?;
-        let (operand, at) = self.in_parentheses(tokens, nesting, at)?;
-        let operand = Boxed::new(self.alloc, operand)?;
+        let operand = boxed(self.alloc, self.in_parentheses(tokens, nesting, at));
+        let ((to, operand), at) = together(to, operand)?;
         Ok((Expr::Cast { to, operand }, at))
     }
 
@@ -106,8 +107,8 @@ impl<
     {
         let at = sign(tokens, at, Word::SizeOf)?;
         let at = sign(tokens, at, Word::LeftParen)?;
-        let ((name, dimension), at) = self.in_size_of(tokens, nesting, at)?;
-        let at = sign(tokens, at, Word::RightParen)?;
+        let (inner, at) = self.in_size_of(tokens, nesting, at)?;
+        let ((name, dimension), at) = ended(tokens, inner, at, Word::RightParen)?;
         Ok((Expr::SizeOf { name, dimension }, at))
     }
 
@@ -218,8 +219,8 @@ impl<
         if !next_is(tokens, at, Word::StarStar) {
             return Ok((base, at));
         }
-        let at = operator(tokens, nesting, at)?;
-        let (exponent, at) = self.unary(tokens, nesting, at)?;
+        let (base, at) = before_operator(tokens, nesting, base, at)?;
+        let ((base, exponent), at) = together(base, self.unary(tokens, nesting, at))?;
         Ok((binary(self.alloc, BinaryOp::Pow, base, exponent)?, at))
     }
 

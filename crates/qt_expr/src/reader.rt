@@ -11,6 +11,7 @@ ghost use Rattle.qt_expr.specs.Parser.{read_any, read_arguments, read_expression
 
 use crate::nesting::{Nesting, too_deep};
 use crate::operator::STRENGTHS;
+use crate::pieces::ended;
 use crate::sign::{begins_expression, behind, next_is, sign};
 use qt_grammar::refusal::Refusal;
 use qt_tree::expression::Expr;
@@ -152,8 +153,7 @@ impl<
     {
         let at = sign(tokens, at, Word::LeftParen)?;
         let (inner, at) = self.any(tokens, nesting, at)?;
-        let at = sign(tokens, at, Word::RightParen)?;
-        Ok((inner, at))
+        ended(tokens, inner, at, Word::RightParen)
     }
 
     /// `"[" expr "]"`
@@ -169,8 +169,7 @@ impl<
     {
         let at = sign(tokens, at, Word::LeftBracket)?;
         let (inner, at) = self.any(tokens, nesting, at)?;
-        let at = sign(tokens, at, Word::RightBracket)?;
-        Ok((inner, at))
+        ended(tokens, inner, at, Word::RightBracket)
     }
 
     /// Expressions with commas between, each one level deeper, at least one.
@@ -245,8 +244,7 @@ impl<
     {
         let at = sign(tokens, at, Word::LeftParen)?;
         let (inner, at) = self.list_or_none(tokens, nesting, at)?;
-        let at = sign(tokens, at, Word::RightParen)?;
-        Ok((inner, at))
+        ended(tokens, inner, at, Word::RightParen)
     }
 
     /// What stands in the braces of a set: a list.
@@ -276,7 +274,6 @@ impl<
     {
         let at = sign(tokens, at, Word::LeftBrace)?;
         let (inner, at) = self.members(tokens, nesting, at)?;
-        let at = sign(tokens, at, Word::RightBrace)?;
-        Ok((inner, at))
+        ended(tokens, inner, at, Word::RightBrace)
     }
 }

@@ -10,5 +10,5 @@ returns g c =
     let d = c.args.nesting.levels in
     let outer = c.args.nesting.outer in
     let base : read_primary ts d outer c.args.at ≡ Ok (c.in_ok-base.base, c.in_ok-base.at) = first_of (search rules, grind (arith, common_steps)) in
-    let e = power_is ts d outer c.args.at c.in_ok-base.base c.in_ok-base.at base (search rules) c.in_ok-at.ensures.fits in
+    let e = power_is ts d outer c.args.at c.in_ok-base.base c.in_ok-base.at base (search rules) c.in_ok-base-2.ensures.fits in
     first_of (search rules, grind (arith, common_steps))

@@ -1,0 +1,54 @@
+//! Pieces of a form, put together while the form is read.
+//!
+//! The functions are generic in what was read, so that a function that holds a tree while it reads on hands the tree over, and
+//! needn't prove what there is to drop, variant by variant, at each of its refusals.
+
+ghost use Rattle.std.specs.Prelude.{◌≡◌, ◌<◌};
+ghost use Rattle.qt_words.specs.Words as words;
+ghost use Rattle.qt_words.specs.Terminals.{stream};
+ghost use Rattle.qt_grammar.specs.Outcome.{Says};
+ghost use Rattle.qt_expr.specs.Parser.{Adds, Ends, read_sign};
+
+use crate::sign::sign;
+use qt_grammar::refusal::Refusal;
+use qt_words::stream::TokenStream;
+use qt_words::word::Word;
+use sqlite_items::Boxed;
+use std::alloc::Global;
+
+/// What was read, and the place behind the token of that word which ends it; Syntax where another stands there.
+#[tactic(auto, unfolding(crate::specs::Parser::read_sign))]
+pub fn ended<T: Drop>(
+    tokens: &TokenStream<'_>,
+    read: T,
+    at: usize,
+    word: Word,
+) -> Result<(T, usize), Refusal>
+    requires { 0 < words.code word }
+    ensures { Ends (read_sign tokens.now (words.code word) at) (stream tokens.now at) read result }
+{
+    let at = sign(tokens, at, word)?;
+    Ok((read, at))
+}
+
+/// What was read first, together with what was read behind it, or why that wasn't read.
+pub fn together<A: Drop, B: Drop>(
+    first: A,
+    second: Result<(B, usize), Refusal>,
+) -> Result<((A, B), usize), Refusal>
+    ensures { Adds first second result }
+{
+    let (second, at) = second?;
+    Ok(((first, second), at))
+}
+
+/// What was read, in a box.
+pub fn boxed<T: Drop>(
+    alloc: Global,
+    read: Result<(T, usize), Refusal>,
+) -> Result<(Boxed<T>, usize), Refusal>
+    ensures { Says read result }
+{
+    let (read, at) = read?;
+    Ok((Boxed::new(alloc, read)?, at))
+}
