@@ -11,6 +11,7 @@ ghost use Rattle.qt_parse.specs.Parser.{read_list, read_entries, read_entry_list
 use crate::lookahead::{begins_entry, begins_scalar};
 use qt_expr::expression::{expression, expressions, scalar};
 use qt_expr::nesting::{Nesting, too_deep};
+use qt_expr::pieces::{ended, together};
 use qt_expr::sign::{behind, label, next_is, sign};
 use qt_grammar::refusal::Refusal;
 use qt_tree::expression::{Expr, Scalar};
@@ -161,8 +162,8 @@ fn element_and_lengths(
         },
         at,
     )?;
-    let at = sign(tokens, at, Word::Comma)?;
-    let (dimensions, at) = expressions(
+    let (scalar, at) = ended(tokens, scalar, at, Word::Comma)?;
+    let dimensions = expressions(
         alloc,
         tokens,
         Nesting {
@@ -170,8 +171,8 @@ fn element_and_lengths(
             outer: None,
         },
         at,
-    )?;
-    Ok(((scalar, dimensions), at))
+    );
+    together(scalar, dimensions)
 }
 
 /// What stands in the brackets of an array, one level deeper.
@@ -203,8 +204,7 @@ fn array_type(
     let at = sign(tokens, at, Word::Array)?;
     let at = sign(tokens, at, Word::LeftBracket)?;
     let (inside, at) = in_array(alloc, tokens, levels, at)?;
-    let at = sign(tokens, at, Word::RightBracket)?;
-    Ok((inside, at))
+    ended(tokens, inside, at, Word::RightBracket)
 }
 
 /// `"array" "[" scalar "," expr { "," expr } "]" Name [ "=" list ] ";"`
@@ -218,10 +218,10 @@ pub fn array_item(
 ) -> Result<(Item, usize), Refusal>
     ensures { Says (read_array_item tokens.now levels place at) result }
 {
-    let ((scalar, dimensions), at) = array_type(alloc, tokens, levels, at)?;
-    let (name, at) = label(alloc, tokens, at)?;
-    let (value, at) = array_value(alloc, tokens, levels, at)?;
-    let at = sign(tokens, at, Word::Semicolon)?;
+    let (array_type, at) = array_type(alloc, tokens, levels, at)?;
+    let (declared, at) = together(array_type, label(alloc, tokens, at))?;
+    let (parts, at) = together(declared, array_value(alloc, tokens, levels, at))?;
+    let ((((scalar, dimensions), name), value), at) = ended(tokens, parts, at, Word::Semicolon)?;
     let array = ArrayItem {
         place,
         scalar,

@@ -15,6 +15,7 @@ use crate::statements::{
 };
 use qt_expr::expression::{in_parentheses, range, scalar, set};
 use qt_expr::nesting::{Nesting, too_deep};
+use qt_expr::pieces::{ended, together};
 use qt_expr::sign::{label, next_is, sign};
 use qt_grammar::refusal::Refusal;
 use qt_tree::statement::{Sequence, Statement, StatementForm};
@@ -44,8 +45,11 @@ fn if_statement(
         },
         at,
     )?;
-    let (body, at) = body(alloc, tokens, levels, at)?;
-    let (otherwise, at) = otherwise(alloc, tokens, levels, at)?;
+    let (parts, at) = together(condition, body(alloc, tokens, levels, at))?;
+    let (((condition, body), otherwise), at) = together(
+        parts,
+        otherwise(alloc, tokens, levels, at),
+    )?;
     let form = StatementForm::If {
         condition,
         body,
@@ -94,7 +98,7 @@ fn while_loop(
         },
         at,
     )?;
-    let (body, at) = body(alloc, tokens, levels, at)?;
+    let ((condition, body), at) = together(condition, body(alloc, tokens, levels, at))?;
     Ok((StatementForm::While { condition, body }, at))
 }
 
@@ -119,7 +123,7 @@ fn sequence(
             },
             at,
         )?;
-        let at = sign(tokens, at, Word::RightBracket)?;
+        let (range, at) = ended(tokens, range, at, Word::RightBracket)?;
         return Ok((Sequence::Range { range }, at));
     }
     if next_is(tokens, at, Word::LeftBrace) {
@@ -159,10 +163,10 @@ fn for_loop(
         },
         at,
     )?;
-    let (name, at) = label(alloc, tokens, at)?;
-    let at = sign(tokens, at, Word::In)?;
-    let (values, at) = sequence(alloc, tokens, levels, at)?;
-    let (body, at) = body(alloc, tokens, levels, at)?;
+    let (declared, at) = together(scalar, label(alloc, tokens, at))?;
+    let (declared, at) = ended(tokens, declared, at, Word::In)?;
+    let (head, at) = together(declared, sequence(alloc, tokens, levels, at))?;
+    let ((((scalar, name), values), body), at) = together(head, body(alloc, tokens, levels, at))?;
     let form = StatementForm::For {
         scalar,
         name,

@@ -14,6 +14,7 @@ ghost use Rattle.qt_parse.specs.Parser.{modifier_sign, read_controls, read_modif
 use crate::operands::{any_operands, operands};
 use qt_expr::expression::{arguments, in_parentheses};
 use qt_expr::nesting::Nesting;
+use qt_expr::pieces::{ended, together};
 use qt_expr::sign::{label, next_is, sign};
 use qt_grammar::refusal::Refusal;
 use qt_tree::expression::Expr;
@@ -111,8 +112,7 @@ fn modifier_sign(
     ensures { Says (read_modifier_sign tokens.now levels at) result }
 {
     let (modifier, at) = modifier(alloc, tokens, levels, at)?;
-    let at = sign(tokens, at, Word::At)?;
-    Ok((modifier, at))
+    ended(tokens, modifier, at, Word::At)
 }
 
 /// `{ modifier "@" }`, at least one; the outermost is the first.
@@ -175,7 +175,7 @@ pub fn phase_call(
         },
         at,
     )?;
-    let (operands, at) = any_operands(alloc, tokens, levels, at)?;
+    let ((angle, operands), at) = together(angle, any_operands(alloc, tokens, levels, at))?;
     let call = GateCall {
         modifiers: Items::new(alloc),
         gate: CalledGate::GlobalPhase { angle },

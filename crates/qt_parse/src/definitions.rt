@@ -14,6 +14,7 @@ use crate::items::qubits;
 use crate::lookahead::{begins_gate_line, begins_parameter, begins_scalar};
 use qt_expr::expression::scalar;
 use qt_expr::nesting::{Nesting, too_deep};
+use qt_expr::pieces::{ended, together};
 use qt_expr::sign::{behind, label, names, next_is, sign};
 use qt_grammar::refusal::Refusal;
 use qt_tree::expression::Scalar;
@@ -53,11 +54,11 @@ fn gate_line_form(
     if next_is(tokens, at, Word::Barrier) {
         let at = sign(tokens, at, Word::Barrier)?;
         let (qubits, at) = any_names(alloc, tokens, at)?;
-        let at = sign(tokens, at, Word::Semicolon)?;
+        let (qubits, at) = ended(tokens, qubits, at, Word::Semicolon)?;
         return Ok((GateForm::Barrier { qubits }, at));
     }
     let (call, at) = gate_call(alloc, tokens, levels, at)?;
-    let at = sign(tokens, at, Word::Semicolon)?;
+    let (call, at) = ended(tokens, call, at, Word::Semicolon)?;
     Ok((GateForm::Call { call }, at))
 }
 
@@ -216,7 +217,7 @@ fn parameter(
             },
             at,
         )?;
-        let (name, at) = label(alloc, tokens, at)?;
+        let ((scalar, name), at) = together(scalar, label(alloc, tokens, at))?;
         return Ok((Parameter::Classical { scalar, name }, at));
     }
     let ((size, name), at) = qubits(alloc, tokens, levels, at)?;

@@ -12,6 +12,7 @@ ghost use Rattle.qt_parse.specs.Parser.{read_include, read_quoted, read_declared
 use crate::statements::optional_size;
 use qt_expr::expression::scalar;
 use qt_expr::nesting::Nesting;
+use qt_expr::pieces::{ended, together};
 use qt_expr::sign::{label, next_is, sign};
 use qt_grammar::refusal::Refusal;
 use qt_tree::expression::{Expr, Scalar};
@@ -74,9 +75,8 @@ fn declared(
         },
         at,
     )?;
-    let (name, at) = label(alloc, tokens, at)?;
-    let at = sign(tokens, at, Word::Semicolon)?;
-    Ok(((scalar, name), at))
+    let (declared, at) = together(scalar, label(alloc, tokens, at))?;
+    ended(tokens, declared, at, Word::Semicolon)
 }
 
 /// `"input" scalar Name ";"`
@@ -131,8 +131,7 @@ pub fn qubits(
 {
     let at = sign(tokens, at, Word::Qubit)?;
     let (size, at) = optional_size(alloc, tokens, levels, at)?;
-    let (name, at) = label(alloc, tokens, at)?;
-    Ok(((size, name), at))
+    together(size, label(alloc, tokens, at))
 }
 
 /// `"qubit" [ "[" expr "]" ] Name ";"`
@@ -146,8 +145,8 @@ pub fn qubit_item(
 ) -> Result<(Item, usize), Refusal>
     ensures { Says (read_qubit_item tokens.now levels place at) result }
 {
-    let ((size, name), at) = qubits(alloc, tokens, levels, at)?;
-    let at = sign(tokens, at, Word::Semicolon)?;
+    let (declared, at) = qubits(alloc, tokens, levels, at)?;
+    let ((size, name), at) = ended(tokens, declared, at, Word::Semicolon)?;
     Ok((Item::Qubit { place, size, name }, at))
 }
 
@@ -164,7 +163,7 @@ pub fn register_item(
 {
     let at = sign(tokens, at, Word::Qreg)?;
     let (name, at) = label(alloc, tokens, at)?;
-    let (size, at) = optional_size(alloc, tokens, levels, at)?;
-    let at = sign(tokens, at, Word::Semicolon)?;
+    let (parts, at) = together(name, optional_size(alloc, tokens, levels, at))?;
+    let ((name, size), at) = ended(tokens, parts, at, Word::Semicolon)?;
     Ok((Item::QubitRegister { place, name, size }, at))
 }

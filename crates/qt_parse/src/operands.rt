@@ -11,6 +11,7 @@ ghost use Rattle.qt_parse.specs.Parser.{read_operand, read_operands, read_any_op
 
 use qt_expr::expression::{all_indexes, expression, index};
 use qt_expr::nesting::Nesting;
+use qt_expr::pieces::{ended, together};
 use qt_expr::sign::{behind, label, next_is, sign};
 use qt_grammar::refusal::Refusal;
 use qt_tree::statement::{Operand, Right, Target};
@@ -33,8 +34,8 @@ pub fn operand(
     if !next_is(tokens, at, Word::LeftBracket) {
         return Ok((Operand { name, index: None }, at));
     }
-    let at = sign(tokens, at, Word::LeftBracket)?;
-    let (index, at) = index(
+    let (name, at) = ended(tokens, name, at, Word::LeftBracket)?;
+    let index = index(
         alloc,
         tokens,
         Nesting {
@@ -42,8 +43,9 @@ pub fn operand(
             outer: None,
         },
         at,
-    )?;
-    let at = sign(tokens, at, Word::RightBracket)?;
+    );
+    let (parts, at) = together(name, index)?;
+    let ((name, index), at) = ended(tokens, parts, at, Word::RightBracket)?;
     let index = Some(index);
     Ok((Operand { name, index }, at))
 }

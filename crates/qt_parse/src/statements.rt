@@ -11,6 +11,7 @@ use crate::lookahead::begins_right;
 use crate::operands::{any_operands, first_value, measured, operand, operands, right, target};
 use qt_expr::expression::{expression, scalar, size};
 use qt_expr::nesting::Nesting;
+use qt_expr::pieces::{ended, together};
 use qt_expr::sign::{label, next_is, sign};
 use qt_grammar::refusal::Refusal;
 use qt_tree::expression::Expr;
@@ -55,9 +56,9 @@ pub fn declaration(
         },
         at,
     )?;
-    let (name, at) = label(alloc, tokens, at)?;
-    let (value, at) = optional_value(alloc, tokens, levels, at)?;
-    let at = sign(tokens, at, Word::Semicolon)?;
+    let (declared, at) = together(scalar, label(alloc, tokens, at))?;
+    let (parts, at) = together(declared, optional_value(alloc, tokens, levels, at))?;
+    let (((scalar, name), value), at) = ended(tokens, parts, at, Word::Semicolon)?;
     let form = StatementForm::Declaration {
         scalar,
         name,
@@ -103,8 +104,8 @@ pub fn bit_register(
 {
     let at = sign(tokens, at, Word::Creg)?;
     let (name, at) = label(alloc, tokens, at)?;
-    let (size, at) = optional_size(alloc, tokens, levels, at)?;
-    let at = sign(tokens, at, Word::Semicolon)?;
+    let (parts, at) = together(name, optional_size(alloc, tokens, levels, at))?;
+    let ((name, size), at) = ended(tokens, parts, at, Word::Semicolon)?;
     Ok((StatementForm::BitRegister { name, size }, at))
 }
 
@@ -128,9 +129,9 @@ pub fn constant(
         },
         at,
     )?;
-    let (name, at) = label(alloc, tokens, at)?;
-    let at = sign(tokens, at, Word::Assign)?;
-    let (value, at) = expression(
+    let (declared, at) = together(scalar, label(alloc, tokens, at))?;
+    let (declared, at) = ended(tokens, declared, at, Word::Assign)?;
+    let value = expression(
         alloc,
         tokens,
         Nesting {
@@ -138,8 +139,9 @@ pub fn constant(
             outer: None,
         },
         at,
-    )?;
-    let at = sign(tokens, at, Word::Semicolon)?;
+    );
+    let (parts, at) = together(declared, value)?;
+    let (((scalar, name), value), at) = ended(tokens, parts, at, Word::Semicolon)?;
     let form = StatementForm::Constant {
         scalar,
         name,
@@ -194,7 +196,7 @@ pub fn gate_statement(
     ensures { Says (read_gate_statement tokens.now levels at) result }
 {
     let (call, at) = unnamed_call(alloc, tokens, levels, at)?;
-    let at = sign(tokens, at, Word::Semicolon)?;
+    let (call, at) = ended(tokens, call, at, Word::Semicolon)?;
     Ok((StatementForm::Gate { call }, at))
 }
 
@@ -227,8 +229,8 @@ pub fn measurement(
     ensures { Says (read_measurement tokens.now levels at) result }
 {
     let (qubits, at) = measured(alloc, tokens, levels, at)?;
-    let (target, at) = measured_to(alloc, tokens, levels, at)?;
-    let at = sign(tokens, at, Word::Semicolon)?;
+    let (parts, at) = together(qubits, measured_to(alloc, tokens, levels, at))?;
+    let ((qubits, target), at) = ended(tokens, parts, at, Word::Semicolon)?;
     Ok((StatementForm::Measure { qubits, target }, at))
 }
 
@@ -244,7 +246,7 @@ pub fn reset(
 {
     let at = sign(tokens, at, Word::Reset)?;
     let (qubits, at) = operand(alloc, tokens, levels, at)?;
-    let at = sign(tokens, at, Word::Semicolon)?;
+    let (qubits, at) = ended(tokens, qubits, at, Word::Semicolon)?;
     Ok((StatementForm::Reset { qubits }, at))
 }
 
@@ -293,7 +295,7 @@ pub fn return_statement(
 {
     let at = sign(tokens, at, Word::Return)?;
     let (value, at) = optional_right(alloc, tokens, levels, at)?;
-    let at = sign(tokens, at, Word::Semicolon)?;
+    let (value, at) = ended(tokens, value, at, Word::Semicolon)?;
     Ok((StatementForm::Return { value }, at))
 }
 
