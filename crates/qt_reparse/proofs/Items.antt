@@ -1,0 +1,120 @@
+-- Each form of items but gates and definitions, and the version of a program.
+use Rattle.std.proofs.Common.{◌≡◌, ℕ, ◌⊎◌, inl, inr, Bool, true, false, if◌then◌else◌, IsTrue, List, [], ◌∷◌, map, codes, Option, refl, sym, ◌∙◌, ap}
+use Rattle.qt_tree.specs.declared.expression.Expr.{Expr}
+use Rattle.qt_tree.specs.declared.place.Place.{Place}
+use Rattle.qt_tree.specs.declared.program.Item.{Item}
+use Rattle.qt_tree.specs.declared.program.Item.TheVariants as item_of
+use Rattle.qt_tree.specs.declared.program.ListItem.TheVariants as entry_of
+use Rattle.qt_tree.specs.declared.program.Parameter.TheVariants as parameter_of
+use Rattle.qt_words.specs.declared.word.Word.{Word as GrammarWord}
+use Rattle.qt_words.specs.declared.word.Word.TheVariants as w
+use Rattle.qt_words.specs.Words.{code, is_operator}
+use Rattle.qt_words.specs.Literals.{is_bit_text, inside_quotes}
+use Rattle.qt_grammar.specs.Sorts.{Sort, Value, item_tail, in_array, an_entry, parameters}
+use Rattle.qt_grammar.specs.Form.{Form, one, as_tree, member}
+use Rattle.qt_grammar.specs.Language.{ended, include, interface, qubits, qubit_item, register_item, list, array_item, rule}
+use Rattle.qt_print.specs.Words.{Word, keyword, comma, quotation, each_behind, separated}
+use Rattle.qt_print.specs.Literals.{quoted}
+use Rattle.qt_print.specs.Statements.{sentence}
+use Rattle.qt_print.specs.Expressions.{expr_words}
+use Rattle.qt_print.specs.Programs.{item_words, values_words, parameter_words, item_lines, qubit_words}
+use Rattle.qt_print.proofs.Items.{item-list_words, item-value_words}
+use Rattle.qt_wording.specs.Places.{origin, bare_item}
+use Rattle.qt_wording.specs.Spelling.{meaning}
+use Rattle.qt_wording.specs.Written.{words_of}
+use Rattle.qt_reparse.proofs.Fixed.{text_means, comma-fixed, semicolon-fixed, left_bracket-fixed, right_bracket-fixed, left_brace-fixed, right_brace-fixed, assign-fixed, include-fixed, input-fixed, output-fixed, qubit-fixed, qreg-fixed, array-fixed}
+use Rattle.qt_reparse.proofs.Again.{Any, again-one, again-told}
+use Rattle.qt_reparse.proofs.Plain.{Filled, words_both}
+use Rattle.qt_reparse.proofs.Setting.{Setting, Reader, Rereads, entries_words, all_parameters_words, in_array_words}
+use Rattle.qt_reparse.proofs.Forms.{form-behind, form-before, form-within, form-maybe, form-filled, form-separated, form-tree, form-plain, form-pair, form-either, form-sign, form-as, form-then}
+use Rattle.qt_reparse.proofs.Named.{entry-again, in_array-again}
+use Rattle.qt_reparse.proofs.Literals.{label-again}
+use Rattle.qt_reparse.proofs.Scalars.{size-again, scalar-again}
+use Rattle.qt_reparse.proofs.Expressions.{expression-again}
+use Rattle.qt_reparse.proofs.Sentences.{words_of_sentence}
+
+-- an item, when its place is known
+abbrev pub ItemTail : (Place → Item) → List Word → Type 0
+ItemTail tail l = (at : Place) → words_of (item_lines (tail at)) ≡ l
+
+abbrev pub SameItemTail : (Place → Item) → (Place → Item) → Type 0
+SameItemTail x y = (at at' : Place) → bare_item (x at) ≡ bare_item (y at')
+
+abbrev quoted_words : List ℕ
+quoted_words = code w.Text ∷ code w.BitText ∷ []
+
+is_quoted : (k : GrammarWord) → IsTrue (member (code k) quoted_words) → (k ≡ w.Text) ⊎ (k ≡ w.BitText)
+is_quoted w.Text h = inl refl
+is_quoted w.BitText h = inr refl
+is_quoted _ h = cc h
+
+quoted_no_operator : (k : GrammarWord) → IsTrue (member (code k) quoted_words) → is_operator k ≡ false
+quoted_no_operator k h = elim (is_quoted k h) [
+  | inl e ↦ ap is_operator e
+  | inr e ↦ ap is_operator e
+]
+
+printed_quoted : (text : List ℕ) → IsTrue (member (code (meaning (quotation text))) quoted_words)
+printed_quoted text = ap (λ k. member (code k) quoted_words) (text_means (quoted text)) ∙ at_test (is_bit_text (quoted text))
+  where
+    at_test : (v : Bool) → IsTrue (member (code (if v then w.BitText else w.Text)) quoted_words)
+    at_test true = refl
+    at_test false = refl
+
+-- a list that isn't empty, behind a comma
+behind_comma : (xs : List Expr) → Filled xs → each_behind comma (map expr_words xs) ≡ comma ∷ separated comma (map expr_words xs)
+behind_comma [] h = absurd h
+behind_comma (x ∷ xs) h = refl
+
+module _ (s : Setting) (outer : Option ℕ) where
+  -- an item of one line, which has one place
+  item-line : {t : Sort} {f : Form t} {words : Value t → List Word} → Rereads s outer f words → (k : Value t → Place → Item) → ((x : Value t) (at : Place) → item_lines (k x at) ≡ sentence (words x))
+      → ((x : Value t) (at at' : Place) → bare_item (k x at) ≡ bare_item (k x at')) → Reader s outer (as_tree {s = t} {t = item_tail} k (ended f)) (as_tree {s = t} {t = item_tail} k (ended f)) ItemTail SameItemTail Any
+  item-line {words = words} a k e b = form-as (form-before semicolon-fixed a) k ItemTail SameItemTail (λ x l h at. ap words_of (e x at) ∙ (words_of_sentence (words x) ∙ h))
+      (λ x y same at at'. b x at at' ∙ ap (λ t. bare_item (k t at')) same)
+
+  quoted-again : Reader s outer (one quoted_words) (one quoted_words) (λ t l. quotation (inside_quotes t.spelling) ∷ [] ≡ l) (λ t t'. inside_quotes t.spelling ≡ inside_quotes t'.spelling) Any
+  quoted-again = record {
+    reads = again-told (again-one s.streams quoted_words quoted_words (λ t. quotation (inside_quotes t.spelling)) refl refl
+        (λ i h. (printed_quoted (inside_quotes ((s.streams.old i).spelling)), quoted_no_operator ((s.streams.old i).word) h ∙ sym (quoted_no_operator (meaning (quotation (inside_quotes ((s.streams.old i).spelling)))) (printed_quoted (inside_quotes ((s.streams.old i).spelling)))))))
+        (λ t l. quotation (inside_quotes t.spelling) ∷ [] ≡ l) (λ t t'. inside_quotes t.spelling ≡ inside_quotes t'.spelling) (λ t l h. h)
+        (λ t t' kept. sym (ap inside_quotes kept.3 ∙ (kept.1.quotation (is_quoted t.word kept.0)).inside));
+  }
+
+  pub include-again : Reader s outer include include ItemTail SameItemTail Any
+  include-again = form-as (form-before semicolon-fixed (form-behind include-fixed quoted-again)) (λ k at. item_of.Include at (inside_quotes k.spelling)) ItemTail SameItemTail
+      (λ t l h at. words_of_sentence (keyword (codes "include") ∷ quotation (inside_quotes t.spelling) ∷ []) ∙ h) (λ t t' same at at'. ap (item_of.Include origin) same)
+
+  pub input-again : Reader s outer (interface w.Input item_of.Input) (interface w.Input item_of.Input) ItemTail SameItemTail Any
+  input-again = item-line (form-behind input-fixed (form-pair (scalar-again s outer) (label-again s outer))) (λ c at. item_of.Input at c.0 c.1) (λ c at. refl) (λ c at at'. refl)
+
+  pub output-again : Reader s outer (interface w.Output item_of.Output) (interface w.Output item_of.Output) ItemTail SameItemTail Any
+  output-again = item-line (form-behind output-fixed (form-pair (scalar-again s outer) (label-again s outer))) (λ c at. item_of.Output at c.0 c.1) (λ c at. refl) (λ c at at'. refl)
+
+  qubits-again : Rereads s outer qubits (λ c. qubit_words c.0 c.1)
+  qubits-again = form-behind qubit-fixed (form-pair (form-maybe (size-again s outer)) (label-again s outer))
+
+  pub qubit-again : Reader s outer qubit_item qubit_item ItemTail SameItemTail Any
+  qubit-again = item-line qubits-again (λ c at. item_of.Qubit at c.0 c.1) (λ c at. refl) (λ c at at'. refl)
+
+  pub register-again : Reader s outer register_item register_item ItemTail SameItemTail Any
+  register-again = item-line (form-behind qreg-fixed (form-pair (label-again s outer) (form-maybe (size-again s outer)))) (λ c at. item_of.QubitRegister at c.0 c.1) (λ c at. refl) (λ c at at'. refl)
+
+  list-again : Rereads s outer list values_words
+  list-again = form-within left_brace-fixed right_brace-fixed (entry-again s outer)
+
+  pub entry_rule-again : Rereads s outer (rule an_entry) entries_words
+  entry_rule-again = form-separated comma-fixed (form-either (form-tree list-again entry_of.List item_words item-list_words) (form-tree (expression-again s outer) entry_of.Value item_words item-value_words))
+
+  pub array-again : Reader s outer array_item array_item ItemTail SameItemTail Any
+  array-again = item-line (form-behind array-fixed (form-pair (form-within left_bracket-fixed right_bracket-fixed (in_array-again s outer)) (form-pair (label-again s outer) (form-maybe (form-behind assign-fixed list-again)))))
+      (λ c at. item_of.Array (record { place = at; scalar = c.0.0; dimensions = c.0.1; name = c.1.0; value = c.1.1 })) (λ c at. refl) (λ c at at'. refl)
+
+  pub in_array_rule-again : Rereads s outer (rule in_array) in_array_words
+  in_array_rule-again = form-pair (scalar-again s outer)
+      (form-then (form-sign comma-fixed) (form-filled comma-fixed (expression-again s outer)) (λ x y. y) (λ xs l. each_behind comma (map expr_words xs) ≡ l) (λ x y. x ≡ y)
+      (λ x xs l m h g. behind_comma xs g.0 ∙ words_both (comma ∷ []) (separated comma (map expr_words xs)) l m h g.1) (λ x x' y y' same alike. alike) (λ y l h m j has next. tt))
+
+  pub parameters_rule-again : Rereads s outer (rule parameters) all_parameters_words
+  parameters_rule-again = form-separated comma-fixed (form-either (form-plain (scalar-again s outer) (label-again s outer) (λ x name. parameter_of.Classical x name) parameter_words (λ x y. refl))
+      (form-tree qubits-again (λ c. parameter_of.Qubits c.0 c.1) parameter_words (λ c. refl)))

@@ -1,0 +1,66 @@
+-- A program's canonical words, and then the end, spell the program but for places.
+use Rattle.std.proofs.Common.{◌≡◌, ℕ, ◌+◌, List, [], ◌∷◌, ◌++◌, map, Option, None, refl, ◌∙◌, ap, subst}
+use Rattle.qt_tree.specs.declared.program.Item.{Item}
+use Rattle.qt_tree.specs.declared.program.Program.{Program}
+use Rattle.qt_tree.specs.declared.program.Version.{Version}
+use Rattle.qt_words.specs.declared.word.Word.TheVariants as w
+use Rattle.qt_words.specs.Words.{code}
+use Rattle.qt_words.specs.Terminals.{Terminal}
+use Rattle.qt_grammar.specs.Form.{maybe, member, Reading, ReadsOne, ReadsThen}
+use Rattle.qt_grammar.specs.Language.{version_form}
+use Rattle.qt_grammar.specs.Reading.{ReadsTo}
+use Rattle.qt_print.specs.Statements.{all_lines}
+use Rattle.qt_print.specs.Programs.{first_lines, item_lines, program_lines}
+use Rattle.qt_wording.specs.Places.{origin, bare_item, bare_version, bare, SameButPlaces}
+use Rattle.qt_wording.specs.Written.{words_of, Written}
+use Rattle.qt_reparse.specs.Laws.{ReadsAgain}
+use Rattle.qt_reparse.proofs.Streams.{Streams, At, written_split, word_in}
+use Rattle.qt_reparse.proofs.Again.{Again, Any}
+use Rattle.qt_reparse.proofs.Setting.{Setting, Reader, NoElse}
+use Rattle.qt_reparse.proofs.Forms.{form-perhaps}
+use Rattle.qt_reparse.proofs.Sentences.{words_of_both}
+use Rattle.qt_reparse.proofs.Programs.{items-again, version-again}
+use Rattle.qt_reparse.proofs.Levels.{names_at}
+
+abbrev SameVersion : Option Version → Option Version → Type 0
+SameVersion x y = bare_version x ≡ bare_version y
+
+abbrev SameItems : List Item → List Item → Type 0
+SameItems xs ys = map bare_item xs ≡ map bare_item ys
+
+first-again : (s : Setting) → Reader s None (maybe version_form) (maybe version_form) (λ o l. words_of (first_lines o) ≡ l) SameVersion Any
+first-again s = form-perhaps (version-again s None) (λ o l. words_of (first_lines o) ≡ l) SameVersion refl (λ x l h. h) refl (λ x y same. same)
+
+abbrev program_of : Option Version × (List Item × Terminal) → Program
+program_of c = record { version = c.0; items = c.1.0; end = c.1.1.place }
+
+abbrev ReadsWhole : Reading (Option Version) → Reading (List Item) → (ℕ → Terminal) → Reading Program
+ReadsWhole r q ts = λ i v j. (c : Option Version × (List Item × Terminal))
+    × ReadsThen {C = Option Version × (List Item × Terminal)} (λ x y. (x, y)) r (ReadsThen {C = List Item × Terminal} (λ x y. (x, y)) q (ReadsOne ts (code w.End ∷ []))) i c j × (v ≡ program_of c)
+
+-- a version, items, and the end, which isn't printed
+module _ (z : Streams) (r r' : Reading (Option Version)) (q q' : Reading (List Item))
+    (a : Again z r r' (λ o l. words_of (first_lines o) ≡ l) SameVersion Any) (b : Again z q q' (λ xs l. words_of (all_lines (map item_lines xs)) ≡ l) SameItems (NoElse z)) where
+  whole_again : (p : Program) (j : ℕ) → ReadsWhole r q z.old 0 p j → At z 0 0 → (j' : ℕ) → Written z.new (words_of (program_lines p)) 0 j' → (z.new j').word ≡ w.End
+      → (p' : Program) × (m : ℕ) × ReadsWhole r' q' z.new 0 p' m × SameButPlaces p p'
+  whole_again p j (c, (v, rest, m, hv, (items, last, n, hi, ht, e2), e1), e0) at j' has end =
+      let c_is : c ≡ (v, (items, last)) = e1 ∙ ap {B = Option Version × (List Item × Terminal)} (λ t. (v, t)) e2 in
+      let p_is : p ≡ program_of (v, (items, last)) = e0 ∙ ap program_of c_is in
+      let x = a.again 0 v m hv in
+      let y = b.again m items n hi in
+      let words : words_of (program_lines p) ≡ x.0 ++ y.0 = ap (λ t. words_of (program_lines t)) p_is ∙ (words_of_both (first_lines v) (all_lines (map item_lines items)) ∙ (ap (λ t. t ++ words_of (all_lines (map item_lines items))) x.1 ∙ ap (λ t. x.0 ++ t) y.1)) in
+      let s = written_split z.new x.0 y.0 0 j' (subst (λ t. Written z.new t 0 j') words has) in
+      let first = x.2 0 s.0 at s.1 tt in
+      let others = y.2 s.0 j' first.3 s.2 (ap (λ k. member (code k) (code w.Else ∷ [])) end) in (
+        program_of (first.0, (others.0, z.new j')),
+        j' + 1,
+        ((first.0, (others.0, z.new j')), (first.0, (others.0, z.new j'), s.0, first.1, (others.0, z.new j', j', others.1, (word_in ((z.new j').word) w.End end, refl, refl), refl), refl), refl),
+        ap bare p_is ∙ (ap (λ t. record { version = t; items = map bare_item items; end = origin }) first.2 ∙ ap (λ t. record { version = bare_version first.0; items = t; end = origin }) others.2),
+      )
+
+pub reads_again : ReadsAgain
+reads_again ts written counts counts' at faithful texts numbers l p (i, h) j has end =
+    let z : Streams = record { old = ts; new = written; old_counts = counts; new_counts = counts'; faithful = faithful; bit_texts = texts; numbers = numbers } in
+    let s : Setting = record { streams = z; cap = l.operators; old = ReadsTo ts l.operators l.levels; new = ReadsTo written l.operators l.levels; names = names_at z l.operators l.levels } in
+    let r = whole_again z _ _ _ _ (first-again s).reads (items-again s None).reads p i h at j has end in
+    (r.0, (r.1, r.2), r.3)

@@ -1,0 +1,217 @@
+-- The operators that are printed mean what was read: binary ones, unary ones, and those of assignments.
+use Rattle.std.proofs.Common.{◌≡◌, ℕ, false, true, IsTrue, List, [], ◌∷◌, ◌++◌, codes, refl, sym, ◌∙◌}
+use Rattle.qt_words.specs.declared.word.Word.{Word as GrammarWord}
+use Rattle.qt_words.specs.declared.word.Word.TheVariants as w
+use Rattle.qt_words.specs.Words.{code, word_of, symbols}
+use Rattle.qt_grammar.specs.Form.{member}
+use Rattle.qt_grammar.specs.Language.{binary_op, unary_op, compound_op, compounds, levels}
+use Rattle.qt_grammar.proofs.LookaheadTests.{subset}
+use Rattle.qt_print.specs.declared.role.Role.TheVariants as r
+use Rattle.qt_print.specs.Words.{Word, word, operator}
+use Rattle.qt_print.specs.Expressions.{operator_text, sign_text}
+use Rattle.qt_wording.specs.Spelling.{meaning}
+use Rattle.qt_reparse.proofs.Streams.{word_is}
+use Rattle.qt_reparse.proofs.Fixed.{Fixed}
+
+-- what is printed for a word that is a binary operator, a unary one, a compound assignment
+abbrev pub printed_binary : GrammarWord → Word
+printed_binary k = operator (operator_text (binary_op k))
+
+abbrev pub printed_unary : GrammarWord → Word
+printed_unary k = word r.Sign (sign_text (unary_op k))
+
+abbrev pub printed_compound : GrammarWord → Word
+printed_compound k = operator (operator_text (compound_op k) ++ codes "=")
+
+abbrev pub binary_ops : List ℕ
+binary_ops =
+    code w.OrOr ∷ code w.AndAnd ∷ code w.Or ∷ code w.Caret ∷ code w.And ∷ code w.EqualEqual ∷ code w.NotEqual ∷ code w.Less ∷ code w.LessEqual ∷ code w.Greater ∷ code w.GreaterEqual
+    ∷ code w.ShiftLeft ∷ code w.ShiftRight ∷ code w.Plus ∷ code w.Minus ∷ code w.Star ∷ code w.Slash ∷ code w.Percent ∷ []
+
+abbrev pub unary_ops : List ℕ
+unary_ops = code w.Minus ∷ code w.Bang ∷ code w.Tilde ∷ []
+
+or_or-fixed : Fixed (operator (codes "||")) w.OrOr
+unfolding word_of symbols
+or_or-fixed = record { means = refl; going_on = refl }
+
+and_and-fixed : Fixed (operator (codes "&&")) w.AndAnd
+unfolding word_of symbols
+and_and-fixed = record { means = refl; going_on = refl }
+
+or-fixed : Fixed (operator (codes "|")) w.Or
+unfolding word_of symbols
+or-fixed = record { means = refl; going_on = refl }
+
+caret-fixed : Fixed (operator (codes "^")) w.Caret
+unfolding word_of symbols
+caret-fixed = record { means = refl; going_on = refl }
+
+and-fixed : Fixed (operator (codes "&")) w.And
+unfolding word_of symbols
+and-fixed = record { means = refl; going_on = refl }
+
+equal_equal-fixed : Fixed (operator (codes "==")) w.EqualEqual
+unfolding word_of symbols
+equal_equal-fixed = record { means = refl; going_on = refl }
+
+not_equal-fixed : Fixed (operator (codes "!=")) w.NotEqual
+unfolding word_of symbols
+not_equal-fixed = record { means = refl; going_on = refl }
+
+less-fixed : Fixed (operator (codes "<")) w.Less
+unfolding word_of symbols
+less-fixed = record { means = refl; going_on = refl }
+
+less_equal-fixed : Fixed (operator (codes "<=")) w.LessEqual
+unfolding word_of symbols
+less_equal-fixed = record { means = refl; going_on = refl }
+
+greater-fixed : Fixed (operator (codes ">")) w.Greater
+unfolding word_of symbols
+greater-fixed = record { means = refl; going_on = refl }
+
+greater_equal-fixed : Fixed (operator (codes ">=")) w.GreaterEqual
+unfolding word_of symbols
+greater_equal-fixed = record { means = refl; going_on = refl }
+
+shift_left-fixed : Fixed (operator (codes "<<")) w.ShiftLeft
+unfolding word_of symbols
+shift_left-fixed = record { means = refl; going_on = refl }
+
+shift_right-fixed : Fixed (operator (codes ">>")) w.ShiftRight
+unfolding word_of symbols
+shift_right-fixed = record { means = refl; going_on = refl }
+
+plus-fixed : Fixed (operator (codes "+")) w.Plus
+unfolding word_of symbols
+plus-fixed = record { means = refl; going_on = refl }
+
+minus-fixed : Fixed (operator (codes "-")) w.Minus
+unfolding word_of symbols
+minus-fixed = record { means = refl; going_on = refl }
+
+star-fixed : Fixed (operator (codes "*")) w.Star
+unfolding word_of symbols
+star-fixed = record { means = refl; going_on = refl }
+
+slash-fixed : Fixed (operator (codes "/")) w.Slash
+unfolding word_of symbols
+slash-fixed = record { means = refl; going_on = refl }
+
+percent-fixed : Fixed (operator (codes "%")) w.Percent
+unfolding word_of symbols
+percent-fixed = record { means = refl; going_on = refl }
+
+star_star-fixed : Fixed (operator (codes "**")) w.StarStar
+unfolding word_of symbols
+star_star-fixed = record { means = refl; going_on = refl }
+
+bang-fixed : Fixed (word r.Sign (codes "!")) w.Bang
+unfolding word_of symbols
+bang-fixed = record { means = refl; going_on = refl }
+
+tilde-fixed : Fixed (word r.Sign (codes "~")) w.Tilde
+unfolding word_of symbols
+tilde-fixed = record { means = refl; going_on = refl }
+
+negative-fixed : Fixed (word r.Sign (codes "-")) w.Minus
+unfolding word_of symbols
+negative-fixed = record { means = refl; going_on = refl }
+
+plus_assign-fixed : Fixed (operator (codes "+" ++ codes "=")) w.PlusAssign
+unfolding word_of symbols
+plus_assign-fixed = record { means = refl; going_on = refl }
+
+minus_assign-fixed : Fixed (operator (codes "-" ++ codes "=")) w.MinusAssign
+unfolding word_of symbols
+minus_assign-fixed = record { means = refl; going_on = refl }
+
+star_assign-fixed : Fixed (operator (codes "*" ++ codes "=")) w.StarAssign
+unfolding word_of symbols
+star_assign-fixed = record { means = refl; going_on = refl }
+
+slash_assign-fixed : Fixed (operator (codes "/" ++ codes "=")) w.SlashAssign
+unfolding word_of symbols
+slash_assign-fixed = record { means = refl; going_on = refl }
+
+percent_assign-fixed : Fixed (operator (codes "%" ++ codes "=")) w.PercentAssign
+unfolding word_of symbols
+percent_assign-fixed = record { means = refl; going_on = refl }
+
+star_star_assign-fixed : Fixed (operator (codes "**" ++ codes "=")) w.StarStarAssign
+unfolding word_of symbols
+star_star_assign-fixed = record { means = refl; going_on = refl }
+
+and_assign-fixed : Fixed (operator (codes "&" ++ codes "=")) w.AndAssign
+unfolding word_of symbols
+and_assign-fixed = record { means = refl; going_on = refl }
+
+or_assign-fixed : Fixed (operator (codes "|" ++ codes "=")) w.OrAssign
+unfolding word_of symbols
+or_assign-fixed = record { means = refl; going_on = refl }
+
+caret_assign-fixed : Fixed (operator (codes "^" ++ codes "=")) w.CaretAssign
+unfolding word_of symbols
+caret_assign-fixed = record { means = refl; going_on = refl }
+
+shift_left_assign-fixed : Fixed (operator (codes "<<" ++ codes "=")) w.ShiftLeftAssign
+unfolding word_of symbols
+shift_left_assign-fixed = record { means = refl; going_on = refl }
+
+shift_right_assign-fixed : Fixed (operator (codes ">>" ++ codes "=")) w.ShiftRightAssign
+unfolding word_of symbols
+shift_right_assign-fixed = record { means = refl; going_on = refl }
+
+pub binary_means : (k : GrammarWord) → IsTrue (member (code k) binary_ops) → meaning (printed_binary k) ≡ k
+binary_means w.OrOr h = or_or-fixed.means
+binary_means w.AndAnd h = and_and-fixed.means
+binary_means w.Or h = or-fixed.means
+binary_means w.Caret h = caret-fixed.means
+binary_means w.And h = and-fixed.means
+binary_means w.EqualEqual h = equal_equal-fixed.means
+binary_means w.NotEqual h = not_equal-fixed.means
+binary_means w.Less h = less-fixed.means
+binary_means w.LessEqual h = less_equal-fixed.means
+binary_means w.Greater h = greater-fixed.means
+binary_means w.GreaterEqual h = greater_equal-fixed.means
+binary_means w.ShiftLeft h = shift_left-fixed.means
+binary_means w.ShiftRight h = shift_right-fixed.means
+binary_means w.Plus h = plus-fixed.means
+binary_means w.Minus h = minus-fixed.means
+binary_means w.Star h = star-fixed.means
+binary_means w.Slash h = slash-fixed.means
+binary_means w.Percent h = percent-fixed.means
+binary_means _ h = cc h
+
+pub unary_means : (k : GrammarWord) → IsTrue (member (code k) unary_ops) → meaning (printed_unary k) ≡ k
+unary_means w.Bang h = bang-fixed.means
+unary_means w.Tilde h = tilde-fixed.means
+unary_means w.Minus h = negative-fixed.means
+unary_means _ h = cc h
+
+pub compound_means : (k : GrammarWord) → IsTrue (member (code k) compounds) → meaning (printed_compound k) ≡ k
+compound_means w.PlusAssign h = plus_assign-fixed.means
+compound_means w.MinusAssign h = minus_assign-fixed.means
+compound_means w.StarAssign h = star_assign-fixed.means
+compound_means w.SlashAssign h = slash_assign-fixed.means
+compound_means w.PercentAssign h = percent_assign-fixed.means
+compound_means w.StarStarAssign h = star_star_assign-fixed.means
+compound_means w.AndAssign h = and_assign-fixed.means
+compound_means w.OrAssign h = or_assign-fixed.means
+compound_means w.CaretAssign h = caret_assign-fixed.means
+compound_means w.ShiftLeftAssign h = shift_left_assign-fixed.means
+compound_means w.ShiftRightAssign h = shift_right_assign-fixed.means
+compound_means _ h = cc h
+
+pub power_means : (k : GrammarWord) → IsTrue (member (code k) (code w.StarStar ∷ [])) → meaning (operator (codes "**")) ≡ k
+power_means k h = star_star-fixed.means ∙ sym (word_is k w.StarStar h)
+
+-- each of these lists has binary operators, and not the end of a text
+abbrev pub AreOperators : List (List ℕ) → Type 0
+AreOperators [] = Unit {0}
+AreOperators (ops ∷ more) = (member 0 ops ≡ false) × (subset ops binary_ops ≡ true) × AreOperators more
+
+pub levels_operators : AreOperators levels
+levels_operators =
+    (refl, refl, (refl, refl, (refl, refl, (refl, refl, (refl, refl, (refl, refl, (refl, refl, (refl, refl, (refl, refl, (refl, refl, tt))))))))))
