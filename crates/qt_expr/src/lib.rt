@@ -20,5 +20,3 @@ mod primary;
 mod reader;
 pub mod refusal;
 pub mod sign;
-#[cfg(test)]
-mod tests;

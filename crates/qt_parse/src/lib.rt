@@ -1,4 +1,10 @@
 //! Programs of the OpenQASM 3 profile, from their tokens.
+//!
+//! [`parser::parse`] answers the only program that the tokens of a text spell within the limits, or the token that is refused and why:
+//! the first that is too deep, or the stopper, by its feature where the profile leaves that out. Each other function reads one form of
+//! the grammar and answers what the grammar's reader of that form answers (`specs/Parser.antt`), with one token of lookahead; only
+//! [`bodies`] and [`arrays`] call themselves. Expressions are read by `qt_expr`. What was read before a form is handed over while that is
+//! read (`qt_expr::pieces`), so that no tree waits in a variable where a refusal would have to drop it: that keeps the proofs short.
 #![tactic(auto)]
 
 mod arrays;
@@ -11,8 +17,4 @@ mod lookahead;
 mod operands;
 pub mod parser;
 mod program;
-#[cfg(test)]
-mod refusal_tests;
 mod statements;
-#[cfg(test)]
-mod tree_tests;

@@ -14,7 +14,5 @@ mod page;
 pub mod program;
 pub mod role;
 mod statement;
-#[cfg(test)]
-mod tests;
 
 pub use program::print;
