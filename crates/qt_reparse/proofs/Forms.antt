@@ -1,4 +1,4 @@
--- The forms of the grammar, one lemma for each way to build one. A form is told apart from what it reads, since that is large.
+-- One lemma for each way to build a form. They tell of forms and not of what forms read: written out, what an expression reads is large.
 use Rattle.std.proofs.Common.{◌≡◌, ℕ, inl, false, IsTrue, List, [], ◌∷◌, ◌++◌, map, Option, Some, None, sym, ◌∙◌}
 use Rattle.qt_words.specs.declared.word.Word.{Word as GrammarWord}
 use Rattle.qt_words.specs.Words.{code}

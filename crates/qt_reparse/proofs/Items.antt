@@ -22,6 +22,7 @@ use Rattle.qt_print.proofs.Items.{item-list_words, item-value_words}
 use Rattle.qt_wording.specs.Places.{origin, bare_item}
 use Rattle.qt_wording.specs.Spelling.{meaning}
 use Rattle.qt_wording.specs.Written.{words_of}
+use Rattle.qt_reparse.proofs.Streams.{each_of}
 use Rattle.qt_reparse.proofs.Fixed.{text_means, comma-fixed, semicolon-fixed, left_bracket-fixed, right_bracket-fixed, left_brace-fixed, right_brace-fixed, assign-fixed, include-fixed, input-fixed, output-fixed, qubit-fixed, qreg-fixed, array-fixed}
 use Rattle.qt_reparse.proofs.Again.{Any, again-one, again-told}
 use Rattle.qt_reparse.proofs.Plain.{Filled, words_both}
@@ -44,15 +45,10 @@ abbrev quoted_words : List ℕ
 quoted_words = code w.Text ∷ code w.BitText ∷ []
 
 is_quoted : (k : GrammarWord) → IsTrue (member (code k) quoted_words) → (k ≡ w.Text) ⊎ (k ≡ w.BitText)
-is_quoted w.Text h = inl refl
-is_quoted w.BitText h = inr refl
-is_quoted _ h = cc h
+is_quoted k h = each_of (λ k. (k ≡ w.Text) ⊎ (k ≡ w.BitText)) (w.Text ∷ w.BitText ∷ []) (inl refl, (inr refl, tt)) k h
 
 quoted_no_operator : (k : GrammarWord) → IsTrue (member (code k) quoted_words) → is_operator k ≡ false
-quoted_no_operator k h = elim (is_quoted k h) [
-  | inl e ↦ ap is_operator e
-  | inr e ↦ ap is_operator e
-]
+quoted_no_operator k h = each_of (λ k. is_operator k ≡ false) (w.Text ∷ w.BitText ∷ []) (refl, (refl, tt)) k h
 
 printed_quoted : (text : List ℕ) → IsTrue (member (code (meaning (quotation text))) quoted_words)
 printed_quoted text = ap (λ k. member (code k) quoted_words) (text_means (quoted text)) ∙ at_test (is_bit_text (quoted text))

@@ -10,7 +10,7 @@ use Rattle.qt_print.specs.declared.role.Role.TheVariants as r
 use Rattle.qt_print.specs.Words.{Word, word, operator}
 use Rattle.qt_print.specs.Expressions.{operator_text, sign_text}
 use Rattle.qt_wording.specs.Spelling.{meaning}
-use Rattle.qt_reparse.proofs.Streams.{word_is}
+use Rattle.qt_reparse.proofs.Streams.{word_is, each_of}
 use Rattle.qt_reparse.proofs.Fixed.{Fixed}
 
 -- what is printed for a word that is a binary operator, a unary one, a compound assignment
@@ -164,45 +164,13 @@ unfolding word_of symbols
 shift_right_assign-fixed = record { means = refl; going_on = refl }
 
 pub binary_means : (k : GrammarWord) → IsTrue (member (code k) binary_ops) → meaning (printed_binary k) ≡ k
-binary_means w.OrOr h = or_or-fixed.means
-binary_means w.AndAnd h = and_and-fixed.means
-binary_means w.Or h = or-fixed.means
-binary_means w.Caret h = caret-fixed.means
-binary_means w.And h = and-fixed.means
-binary_means w.EqualEqual h = equal_equal-fixed.means
-binary_means w.NotEqual h = not_equal-fixed.means
-binary_means w.Less h = less-fixed.means
-binary_means w.LessEqual h = less_equal-fixed.means
-binary_means w.Greater h = greater-fixed.means
-binary_means w.GreaterEqual h = greater_equal-fixed.means
-binary_means w.ShiftLeft h = shift_left-fixed.means
-binary_means w.ShiftRight h = shift_right-fixed.means
-binary_means w.Plus h = plus-fixed.means
-binary_means w.Minus h = minus-fixed.means
-binary_means w.Star h = star-fixed.means
-binary_means w.Slash h = slash-fixed.means
-binary_means w.Percent h = percent-fixed.means
-binary_means _ h = cc h
+binary_means k h = each_of (λ k. meaning (printed_binary k) ≡ k) (w.OrOr ∷ w.AndAnd ∷ w.Or ∷ w.Caret ∷ w.And ∷ w.EqualEqual ∷ w.NotEqual ∷ w.Less ∷ w.LessEqual ∷ w.Greater ∷ w.GreaterEqual ∷ w.ShiftLeft ∷ w.ShiftRight ∷ w.Plus ∷ w.Minus ∷ w.Star ∷ w.Slash ∷ w.Percent ∷ []) (or_or-fixed.means, (and_and-fixed.means, (or-fixed.means, (caret-fixed.means, (and-fixed.means, (equal_equal-fixed.means, (not_equal-fixed.means, (less-fixed.means, (less_equal-fixed.means, (greater-fixed.means, (greater_equal-fixed.means, (shift_left-fixed.means, (shift_right-fixed.means, (plus-fixed.means, (minus-fixed.means, (star-fixed.means, (slash-fixed.means, (percent-fixed.means, tt)))))))))))))))))) k h
 
 pub unary_means : (k : GrammarWord) → IsTrue (member (code k) unary_ops) → meaning (printed_unary k) ≡ k
-unary_means w.Bang h = bang-fixed.means
-unary_means w.Tilde h = tilde-fixed.means
-unary_means w.Minus h = negative-fixed.means
-unary_means _ h = cc h
+unary_means k h = each_of (λ k. meaning (printed_unary k) ≡ k) (w.Minus ∷ w.Bang ∷ w.Tilde ∷ []) (negative-fixed.means, (bang-fixed.means, (tilde-fixed.means, tt))) k h
 
 pub compound_means : (k : GrammarWord) → IsTrue (member (code k) compounds) → meaning (printed_compound k) ≡ k
-compound_means w.PlusAssign h = plus_assign-fixed.means
-compound_means w.MinusAssign h = minus_assign-fixed.means
-compound_means w.StarAssign h = star_assign-fixed.means
-compound_means w.SlashAssign h = slash_assign-fixed.means
-compound_means w.PercentAssign h = percent_assign-fixed.means
-compound_means w.StarStarAssign h = star_star_assign-fixed.means
-compound_means w.AndAssign h = and_assign-fixed.means
-compound_means w.OrAssign h = or_assign-fixed.means
-compound_means w.CaretAssign h = caret_assign-fixed.means
-compound_means w.ShiftLeftAssign h = shift_left_assign-fixed.means
-compound_means w.ShiftRightAssign h = shift_right_assign-fixed.means
-compound_means _ h = cc h
+compound_means k h = each_of (λ k. meaning (printed_compound k) ≡ k) (w.PlusAssign ∷ w.MinusAssign ∷ w.StarAssign ∷ w.SlashAssign ∷ w.PercentAssign ∷ w.StarStarAssign ∷ w.AndAssign ∷ w.OrAssign ∷ w.CaretAssign ∷ w.ShiftLeftAssign ∷ w.ShiftRightAssign ∷ []) (plus_assign-fixed.means, (minus_assign-fixed.means, (star_assign-fixed.means, (slash_assign-fixed.means, (percent_assign-fixed.means, (star_star_assign-fixed.means, (and_assign-fixed.means, (or_assign-fixed.means, (caret_assign-fixed.means, (shift_left_assign-fixed.means, (shift_right_assign-fixed.means, tt))))))))))) k h
 
 pub power_means : (k : GrammarWord) → IsTrue (member (code k) (code w.StarStar ∷ [])) → meaning (operator (codes "**")) ≡ k
 power_means k h = star_star-fixed.means ∙ sym (word_is k w.StarStar h)

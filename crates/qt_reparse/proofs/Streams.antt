@@ -1,11 +1,12 @@
 -- Two streams of tokens: what was read, and what is written of it. Tokens at corresponding places have the same count of operators.
-use Rattle.std.proofs.Common.{◌≡◌, ℕ, ◌+◌, Bool, true, false, if◌then◌else◌, IsTrue, List, [], ◌∷◌, ◌++◌, refl, sym, ◌∙◌, ap, subst, arith}
+use Rattle.std.proofs.Common.{◌≡◌, ℕ, ◌+◌, inl, inr, eqb, Bool, true, false, if◌then◌else◌, IsTrue, List, [], ◌∷◌, ◌++◌, map, refl, sym, ◌∙◌, ap, subst, arith}
 use Rattle.qt_words.specs.declared.word.Word.{Word as GrammarWord}
 use Rattle.qt_words.specs.declared.word.Word.TheVariants as w
 use Rattle.qt_words.specs.Words.{code, is_operator}
 use Rattle.qt_words.specs.Terminals.{Terminal, behind}
 use Rattle.qt_words.proofs.Codes.{code_same}
 use Rattle.qt_grammar.specs.Form.{member}
+use Rattle.qt_grammar.proofs.LookaheadTests.{or_cases, eqb_same}
 use Rattle.qt_print.specs.Words.{Word}
 use Rattle.qt_wording.specs.Faithful.{IsFaithful, AreNumbersAgain}
 use Rattle.qt_wording.specs.Written.{Written, Counts}
@@ -39,6 +40,18 @@ word_is a k h = code_same a k (only_member (code a) (code k) h)
 
 pub word_in : (a k : GrammarWord) → a ≡ k → IsTrue (member (code a) (code k ∷ []))
 word_in a k e = subst (λ t. IsTrue (member (code a) (code t ∷ []))) e (member_same (code a))
+
+abbrev pub AllOf : (GrammarWord → Type 0) → List GrammarWord → Type 0
+AllOf P [] = Unit {0}
+AllOf P (k ∷ ks) = P k × AllOf P ks
+
+-- what holds of each word of a list holds of a word whose number is among theirs
+pub each_of : (P : GrammarWord → Type 0) (words : List GrammarWord) → AllOf P words → (k : GrammarWord) → IsTrue (member (code k) (map code words)) → P k
+each_of P [] all k h = cc h
+each_of P (first ∷ rest) all k h = elim (or_cases (eqb (code k) (code first)) (member (code k) (map code rest)) h) [
+  | inl e ↦ subst P (sym (code_same k first (eqb_same (code k) (code first) e))) all.0
+  | inr g ↦ each_of P rest all.1 k g
+]
 
 -- a word of a list that has no number of the end is not the end
 not_end : (ws : List ℕ) → member 0 ws ≡ false → (a : GrammarWord) → IsTrue (member (code a) ws) → a ≡ w.End → ⊥

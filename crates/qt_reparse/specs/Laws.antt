@@ -22,6 +22,7 @@ TextsHaveBitTexts = (text : List ℕ) (tokens : List Token) → HasBitTexts (str
 
 -- Where tokens spell a program within limits, other tokens that are its canonical words, and then the end, spell within the same
 -- limits a program that is the same but for places.
+-- Each bit string has to be spelled as one: a token `""` that is called a bit string would be printed as `""`, which is none.
 abbrev pub ReadsAgain : Type 0
 ReadsAgain = (ts written : ℕ → Terminal) → Counts ts → Counts written → (ts 0).operators ≡ (written 0).operators
     → ((i : ℕ) → IsFaithful (ts i)) → HasBitTexts ts → AreNumbersAgain
