@@ -1,20 +1,16 @@
 -- From the text as far as it was fetched to what is said of the whole text: a text that is longer than the fetch reaches is refused
 -- for its length, and every other is fetched whole.
-use Rattle.std.proofs.Common.{◌≡◌, ◌≢◌, ℕ, ◌<◌, ◌≤◌, ◌⊎◌, inl, inr, min, List, [], ◌∷◌, codes, length, take, refl, sym, ap, ◌∙◌, subst, arith, length-take}
+use Rattle.std.proofs.Common.{◌≡◌, ◌≢◌, ℕ, ◌≤◌, inl, inr, List, length, take, refl, sym, ap, ◌∙◌, subst, arith, length-take}
 use Rattle.std.proofs.lemmas.List.{take_all}
 use Rattle.qt_outside.specs.Causes.{Texts, text_of}
 use Rattle.qt_tree.specs.declared.program.Program.{Program as Source}
 use Rattle.qt_tree.specs.declared.refusal.TextRefusal.{TextRefusal}
 use Rattle.qt_tree.specs.declared.refusal.TextRefusal.TheVariants as e
-use Rattle.qt_read.specs.Lines.{refusal_line}
-use Rattle.qt_read.specs.Reading.{IsTextOfProgram, IsRefused, HasTokens, most_bytes, long, no_utf8, no_token, stopped}
-use Rattle.qt_print.specs.Text.{canonical}
-use Rattle.qt_first.specs.declared.program.Program.{Program}
-use Rattle.qt_first.specs.Form.{IsTextOf}
+use Rattle.qt_read.specs.Reading.{IsTextOfProgram, IsRefused, most_bytes, long, no_utf8, no_token, stopped}
 use Rattle.std.specs.Prelude.{Result, Ok, Err, MatchResult}
-use Rattle.qt_host.specs.Lines.{form_line, shelf_line, memory_line, fault_line, named}
-use Rattle.qt_host.specs.Said.{Said, Asks, IsMode, Answer, answered, refused, refused_text, other_form, report_of, canonical_of}
-use Rattle.qt_host.specs.Steps.{mode_word, IsReportOf, IsAnswer, HasNoAnswer, HasNoAnswerAt, HasShelfCause, IsTold}
+use Rattle.qt_host.specs.Lines.{form_line, shelf_line, fault_line, named}
+use Rattle.qt_host.specs.Said.{Said, Asks, IsMode, answered, refused, refused_text, other_form, report_of, canonical_of}
+use Rattle.qt_host.specs.Steps.{mode_word, IsAnswer, HasNoAnswer, HasNoAnswerAt, HasShelfCause, IsTold}
 use Rattle.qt_host.specs.declared.request.Mode.{Mode}
 use Rattle.qt_host.specs.declared.request.Mode.TheVariants.{Run, Format}
 use Rattle.qt_host.specs.declared.refusal.HostRefusal.{HostRefusal}

@@ -2,3 +2,4 @@ pub mod Words
 pub mod Putting
 pub mod Answers
 pub mod OneAnswer
+pub mod Formatting

@@ -1,12 +1,12 @@
 -- What was put of a text: whole, and in part.
-use Rattle.std.proofs.Common.{◌≡◌, ℕ, suc, ◌+◌, ◌-◌, ◌<◌, ◌≤◌, List, [], ◌∷◌, ◌++◌, length, take, Option, Some, None, refl, sym, ap, ◌∙◌, subst, arith, append_assoc, length-append, append-nil}
+use Rattle.std.proofs.Common.{◌≡◌, ℕ, ◌+◌, ◌≤◌, List, [], ◌++◌, length, take, Option, Some, None, refl, sym, ap, ◌∙◌, subst, arith, append_assoc, length-append, append-nil}
 use Rattle.std.proofs.Math.Seq.{take-append-add}
 use Rattle.std.proofs.lemmas.List.{take-append-le}
-use Rattle.std.specs.Prelude.{Result, Ok, Err}
+use Rattle.std.specs.Prelude.{Ok, Err}
 use Rattle.qt_outside.specs.Causes.{Rose, Grows, PutCause}
 use Rattle.qt_outside.specs.declared.faults.PutFault.{PutFault}
 use Rattle.qt_outside.specs.declared.faults.PutFault.TheVariants as put
-use Rattle.qt_host.specs.Puts.{Seen, seen, Follows, Whole, Part, IsCut, PutsLine}
+use Rattle.qt_host.specs.Puts.{Seen, Follows, Whole, Part, IsCut}
 
 follows_more : (before now after : Option (List ℕ)) (done piece : List ℕ) → Follows before now done → Follows now after piece → Follows before after (done ++ piece)
 follows_more None None after done piece h k = k

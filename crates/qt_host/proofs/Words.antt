@@ -1,5 +1,5 @@
 -- Lists of two items, and words that ask for nothing.
-use Rattle.std.proofs.Common.{◌≡◌, ℕ, suc, ◌<◌, ◌≤◌, ◌⊎◌, inl, inr, List, [], ◌∷◌, length, get_or, refl, sym, ap, ◌∙◌, arith}
+use Rattle.std.proofs.Common.{◌≡◌, ℕ, ◌<◌, ◌≤◌, inl, inr, List, [], ◌∷◌, length, get_or, sym, ap, ◌∙◌, arith}
 use Rattle.qt_host.specs.declared.request.Mode.TheVariants.{Run, Format}
 use Rattle.qt_host.specs.Said.{IsMode, AreServed}
 use Rattle.qt_host.specs.Steps.{IsNoMode}

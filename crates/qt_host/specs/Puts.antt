@@ -1,9 +1,9 @@
 -- What a call leaves of a sink: its bytes, where it tells them, and its two counts.
-use Rattle.std.specs.Prelude.{◌≡◌, ℕ, ◌≤◌, ◌⊎◌, List, [], ◌++◌, take, length, Option, Some, None}
+use Rattle.std.specs.Prelude.{◌≡◌, ℕ, ◌≤◌, ◌⊎◌, List, ◌++◌, take, length, Option, Some, None}
 use Rattle.qt_outside.specs.Causes.{Texts, Rose}
 use Rattle.qt_outside.specs.declared.faults.PutFault.{PutFault}
 use Rattle.qt_outside.specs.declared.faults.PutFault.TheVariants as put
-use Rattle.qt_host.specs.Said.{Answer, Said, answered}
+use Rattle.qt_host.specs.Said.{Said, answered}
 
 -- a sink as contracts see it
 pub record Seen : Type 0 where

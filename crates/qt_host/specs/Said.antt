@@ -1,7 +1,7 @@
 -- What is said of the words of the command line and of the texts that the shelf holds: one answer, made of the status, the
 -- bytes for the standard output and the bytes for the standard error. For `run` and a text of the first form the bytes are the
 -- report of exactly the distribution of its program; for `format` they are the canonical text of the program.
-use Rattle.std.specs.Prelude.{◌≡◌, ◌≢◌, ◌⊎◌, ℕ, List, [], ◌∷◌, ◌++◌, codes}
+use Rattle.std.specs.Prelude.{◌≡◌, ◌⊎◌, ℕ, List, [], ◌∷◌, codes}
 use Rattle.qt_outside.specs.Causes.{Texts, text_of}
 use Rattle.qt_tree.specs.declared.program.Program.{Program as Source}
 use Rattle.qt_tree.specs.declared.refusal.TextRefusal.{TextRefusal}

@@ -1,9 +1,7 @@
 -- What the steps of the top call find: the text that was fetched, and the answer that it comes to.
-use Rattle.std.specs.Prelude.{◌≡◌, ◌≢◌, ℕ, ◌⊎◌, ◌<◌, List, [], ◌∷◌, codes}
+use Rattle.std.specs.Prelude.{◌≡◌, ℕ, ◌⊎◌, List, [], ◌∷◌, codes}
 use Rattle.qt_outside.specs.Causes.{Rose}
 use Rattle.qt_tree.specs.declared.program.Program.{Program as Source}
-use Rattle.qt_tree.specs.declared.refusal.TextRefusal.{TextRefusal}
-use Rattle.qt_tree.specs.declared.refusal.TextRefusal.TheVariants as refusal
 use Rattle.qt_read.specs.Lines.{refusal_line}
 use Rattle.qt_read.specs.Reading.{IsTextOfProgram, IsRefused}
 use Rattle.qt_print.specs.Text.{canonical}

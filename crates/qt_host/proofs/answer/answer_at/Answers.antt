@@ -1,4 +1,4 @@
-use Rattle.std.proofs.Common.{◌≡◌, ◌∙◌, string_bytes}
+use Rattle.std.proofs.Common.{◌∙◌, string_bytes}
 use Rattle.qt_outside.specs.Causes.{text_of}
 use Rattle.qt_host.proofs.Answers.{of_fetched}
 use Rattle.qt_host.proofs.answer.answer_at.Goals as goal

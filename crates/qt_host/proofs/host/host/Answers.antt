@@ -1,6 +1,6 @@
-use Rattle.std.proofs.Common.{◌≡◌, ◌∙◌, inr, subst, sym, map, string_bytes}
+use Rattle.std.proofs.Common.{inr, subst, sym, map, string_bytes}
 use Rattle.qt_outside.specs.Causes.{text_of}
-use Rattle.qt_host.specs.Puts.{seen, PutsLine}
+use Rattle.qt_host.specs.Puts.{PutsLine}
 use Rattle.qt_host.specs.Steps.{mode_word, IsAnswer}
 use Rattle.qt_host.proofs.Answers.{said, told, line_of_status}
 use Rattle.qt_host.proofs.host.host.Goals as goal

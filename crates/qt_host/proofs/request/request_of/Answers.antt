@@ -1,4 +1,4 @@
-use Rattle.std.proofs.Common.{◌≡◌, ◌∙◌, ap, subst, sym, List, ℕ, map, string_bytes, [], ◌∷◌}
+use Rattle.std.proofs.Common.{◌≡◌, ap, subst, map, string_bytes, [], ◌∷◌}
 use Rattle.qt_host.specs.Steps.{IsNoMode}
 use Rattle.qt_host.proofs.Words.{two_items, no_service}
 use Rattle.qt_host.proofs.request.request_of.Goals as goal
