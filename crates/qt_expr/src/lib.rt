@@ -5,8 +5,9 @@
 //! that opens an expression, where that list is one within the limits; else the first token of it that is too deep, or the token
 //! behind it, by [`refusal::told`]. The functions of [`expression`] and [`sign`] read one form each, for the parser of statements,
 //! and answer what the grammar's reader of that form answers (`specs/Parser.antt`), at a [`nesting::Nesting`]: so many levels that
-//! are left, and so many operators before the outermost expression. Inside, the forms that hold expressions take the function that
-//! reads operators as a parameter, so that each is proved by itself and only that function calls itself.
+//! are left, and so many operators before the outermost expression. [`pieces`] holds what a form has read so far while it reads on.
+//! Inside, the forms that hold expressions take the function that reads operators as a parameter, so that each is proved by itself
+//! and only that function calls itself.
 #![tactic(auto)]
 
 pub mod expression;

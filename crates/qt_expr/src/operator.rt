@@ -108,7 +108,7 @@ pub fn before_operator<T: Drop>(
     Ok((read, behind))
 }
 
-/// Both in boxes.
+/// Both values in boxes.
 fn both_boxed<A: Drop, B: Drop>(
     alloc: Global,
     left: A,

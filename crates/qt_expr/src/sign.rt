@@ -1,6 +1,6 @@
 //! Single tokens, and names.
 
-ghost use Rattle.std.specs.Prelude.{◌≡◌, ◌+◌, ◌-◌, ◌<◌, [], ◌∷◌, length, IfOk, Ok, Err};
+ghost use Rattle.std.specs.Prelude.{◌≡◌, ◌+◌, ◌-◌, ◌<◌, [], ◌∷◌, length, IfOk};
 ghost use Rattle.qt_words.specs.Words as words;
 ghost use Rattle.qt_words.specs.Terminals.{stream};
 ghost use Rattle.qt_grammar.specs.Form.{member, word_at};
