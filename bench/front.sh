@@ -15,6 +15,8 @@ import subprocess
 import sys
 
 program = sys.argv[1]
+# the status of `run` for a text that is read and isn't of a form that is served
+FORM = 1
 LINES = [
     "bit[4] b{n} = \"01_10\"; // a register\n",
     "const uint[32] k{n} = 0x1F + 2 ** 3 - (7 * {n}) % 5;\n",
@@ -34,13 +36,15 @@ def text(size):
     return "".join(lines)
 
 
-def measured(words, name):
-    """The least seconds of five runs, and the most memory in bytes."""
+def measured(words, name, wanted):
+    """The least seconds of five runs that end with the wanted status, and the most memory in bytes."""
     least, most = None, 0
     for _ in range(5):
         with open(os.devnull, "wb") as out:
             child = subprocess.Popen(words + [name], stdout=out, stderr=out)
-            _, _, usage = os.wait4(child.pid, 0)
+            _, ended, usage = os.wait4(child.pid, 0)
+        if os.waitstatus_to_exitcode(ended) != wanted:
+            sys.exit(f"front.sh: {words} {name} ended with another status than {wanted}")
         seconds = usage.ru_utime + usage.ru_stime
         least = seconds if least is None else min(least, seconds)
         most = max(most, usage.ru_maxrss * 1024)
@@ -49,7 +53,7 @@ def measured(words, name):
 
 with open("empty.qasm", "w"):
     pass
-_, base = measured([program, "run"], "empty.qasm")
+_, base = measured([program, "run"], "empty.qasm", FORM)
 print("   bytes   read s  to half  format s  to read  memory/byte  read to sort")
 before = None
 for step in range(7):
@@ -57,9 +61,9 @@ for step in range(7):
     body = text((16 << step) * 1024 - 200)
     with open(name, "w") as file:
         file.write(body)
-    read, memory = measured([program, "run"], name)
-    formatted, _ = measured([program, "format"], name)
-    yardstick, _ = measured(["sort"], name)
+    read, memory = measured([program, "run"], name, FORM)
+    formatted, _ = measured([program, "format"], name, 0)
+    yardstick, _ = measured(["sort"], name, 0)
     ratio = f"{read / before:7.2f}" if before else "      -"
     print(f"{len(body):8} {read:8.4f}  {ratio}  {formatted:8.4f}  {formatted / read:7.2f}  {(memory - base) / len(body):11.1f}  {read / yardstick:12.1f}")
     before = read

@@ -75,8 +75,8 @@ const FORMS: [(&str, &str); 35] = [
         "h q[0], r;\np(pi / 2, 1) q;\nf() q;\nf(1, 2);\nf();\n",
     ),
     (
-        "inv@pow(2)@ctrl@negctrl(2)@gphase(\u{3c0});ctrl@x q,r;gphase(1)q,r;",
-        "inv @ pow(2) @ ctrl @ negctrl(2) @ gphase(pi);\nctrl @ x q, r;\ngphase(1) q, r;\n",
+        "inv@pow(2)@ctrl@negctrl(2)@gphase(\u{3c0});negctrl@x q,r;gphase(1)q,r;",
+        "inv @ pow(2) @ ctrl @ negctrl(2) @ gphase(pi);\nnegctrl @ x q, r;\ngphase(1) q, r;\n",
     ),
     ("if(a)x q;", "if (a) {\n  x q;\n}\n"),
     (

@@ -86,8 +86,8 @@ const RUNS: [Row; 7] = [
     },
 ];
 
-/// What is answered to `format`.
-const FORMATS: [Row; 4] = [
+/// What is answered to `format`; the shelf has no other text, so no include is fetched.
+const FORMATS: [Row; 5] = [
     Row {
         words: &["format", "coin.qasm"],
         text: "OPENQASM 3;const int n=0x1F;bit[4] b=\"0_1_01\";",
@@ -114,6 +114,13 @@ const FORMATS: [Row; 4] = [
         text: COIN,
         status: 0,
         out: COIN,
+        err: "",
+    },
+    Row {
+        words: &["format", "coin.qasm"],
+        text: "include 'gates.inc';g q;",
+        status: 0,
+        out: "include \"gates.inc\";\ng q;\n",
         err: "",
     },
 ];
@@ -442,21 +449,24 @@ fn refusing_sinks(rt: HostRuntime) -> Result<(), Fail> {
     Ok(())
 }
 
-/// A shelf that fails for a text that it holds.
+/// A shelf that fails at its first and third call, for a text that it holds.
 #[test]
 fn failing_shelf(rt: HostRuntime) -> Result<(), Fail> {
-    let words = owned(rt.alloc(), &["run", "coin.qasm"])?;
     let mut shelf = MemoryShelf::new(rt.alloc());
     shelf.add_text("coin.qasm", COIN.as_bytes())?;
     shelf.fail_at(1)?;
-    for (status, wanted) in [(4, "S1 shelf coin.qasm\n"), (0, "")] {
-        let mut out = SureSink::new(rt.alloc());
-        let mut err = SureSink::new(rt.alloc());
-        assert_eq!(rt;
-            host(rt.alloc(), words.as_slice(), &mut shelf, &mut out, &mut err),
-            status
-        );
-        assert_eq!(rt; err.bytes(), wanted.as_bytes());
+    shelf.fail_at(3)?;
+    for mode in ["run", "format"] {
+        let words = owned(rt.alloc(), &[mode, "coin.qasm"])?;
+        for (status, wanted) in [(4, "S1 shelf coin.qasm\n"), (0, "")] {
+            let mut out = SureSink::new(rt.alloc());
+            let mut err = SureSink::new(rt.alloc());
+            assert_eq!(rt;
+                host(rt.alloc(), words.as_slice(), &mut shelf, &mut out, &mut err),
+                status
+            );
+            assert_eq!(rt; err.bytes(), wanted.as_bytes());
+        }
     }
     Ok(())
 }

@@ -1,5 +1,5 @@
 -- |v|² of a state as an exact real number: the probability that a leaf of the tree of outcomes carries
--- (OpenQASM 3.0 live specification, "Quantum measurement and reset"; Cross et al. 2022, section 3.2).
+-- (OpenQASM 3.0 live specification, "Quantum measurement and reset"; Cross et al. 2022).
 use Rattle.std.specs.Prelude.{◌+◌, ◌^◌, ◌≤◌, pos, ◌≤ℤ◌}
 use Rattle.qt_root2.specs.Real.{Real, least}
 use Rattle.qt_ring.specs.State.{State, HasAllEntries, total_a, total_b}

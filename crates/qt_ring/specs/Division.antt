@@ -1,5 +1,5 @@
 -- Division in the ring Z[ω]. Amplitudes are kept small by taking common divisors out of a state: powers of 2, √2 and 1 − ω
--- (OpenQASM 3.0 live specification, "Quantum measurement and reset"; Cross et al. 2022, section 3.2: a state matters only up
+-- (OpenQASM 3.0 live specification, "Quantum measurement and reset"; Cross et al. 2022: a state matters only up
 -- to a factor).
 use Rattle.std.specs.Prelude.{◌≡◌, ℕ, ◌%◌, ℤ}
 use Rattle.std.specs.Int.RustNames.{unsigned_abs}

@@ -1,5 +1,5 @@
 -- The four gates h, x, t and cx as bodies over U and gphase, with their global phases: the entries are those of the gates of
--- the standard library of OpenQASM 3.0 (live specification, "Standard library"; Cross et al. 2022, section 3.3), each to be
+-- the standard library of OpenQASM 3.0 (live specification, "Standard library"; Cross et al. 2022), each to be
 -- halved `halvings` times.
 use Rattle.std.specs.Prelude.{[], ◌∷◌}
 use Rattle.qt_ring.specs.Matrix.{Operator, u_gate, phase_gate, controlled, body}

@@ -1,5 +1,5 @@
 -- Laws of the ring Z[ω], of |x|² and of division, and that U and gphase are unitary
--- (OpenQASM 3.0 live specification, "Gates": gates are unitary transformations; Cross et al. 2022, section 3.3).
+-- (OpenQASM 3.0 live specification, "Gates": gates are unitary transformations; Cross et al. 2022).
 use Rattle.std.specs.Prelude.{◌≡◌, ◌≢◌, ℕ, ◌↔◌, pos, ◌+ℤ◌, ◌*ℤ◌, ◌≤ℤ◌}
 use Rattle.qt_ring.specs.declared.omega.Omega.{Omega}
 use Rattle.qt_ring.specs.Ring.{nil, one, root_two, one_minus_omega, epsilon, epsilon_inverse, plus, minus, times, conj, root, two_to, whole, norm_a, norm_b}

@@ -1,6 +1,6 @@
 -- Full matrices on qubits: products, the identity, a matrix under control, and the embedding of a matrix on chosen qubits
 -- into all qubits of a program (OpenQASM 3.0 live specification, "Gates": hierarchically defined gates, control modifiers;
--- Cross et al. 2022, section 3.3). A matrix is a function of two basis states, the row and the column.
+-- Cross et al. 2022). A matrix is a function of two basis states, the row and the column.
 use Rattle.std.specs.Prelude.{◌≡◌, ℕ, zero, suc, ◌+◌, Bool, true, false, List, [], ◌∷◌, length}
 use Rattle.qt_ring.specs.declared.omega.Omega.{Omega}
 use Rattle.qt_ring.specs.Ring.{nil, one, plus, times, minus, conj, imaginary, two_to, root}

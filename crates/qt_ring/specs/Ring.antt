@@ -1,6 +1,6 @@
 -- Numbers of the ring Z[ω], ω = e^{iπ/4}: c0 + c1 ω + c2 ω² + c3 ω³ with whole coefficients, where ω⁴ = −1.
 -- Where all angles are multiples of π/4, every entry of a gate's matrix is such a number divided by a power of two
--- (OpenQASM 3.0 live specification, "Gates", the built-in gates U and gphase; Cross et al. 2022, section 3.3).
+-- (OpenQASM 3.0 live specification, "Gates", the built-in gates U and gphase; Cross et al. 2022).
 use Rattle.std.specs.Prelude.{ℕ, zero, suc, ℤ, pos, negsuc, ◌+ℤ◌, ◌-ℤ◌, ◌*ℤ◌, ◌≤◌, Bool, true, false, ◌&&◌}
 use Rattle.std.specs.Int.RustNames.{unsigned_abs}
 use Rattle.qt_ring.specs.declared.omega.Omega.{Omega}

@@ -1,5 +1,5 @@
 -- States of n qubits: 2^n amplitudes in Z[ω] with a shared number of halvings, and what gates, projections and flips do to
--- them by full matrices (OpenQASM 3.0 live specification, "Quantum measurement and reset"; Cross et al. 2022, section 3.2).
+-- them by full matrices (OpenQASM 3.0 live specification, "Quantum measurement and reset"; Cross et al. 2022).
 -- Entry i belongs to the basis state whose bit j is bit j of i. States are never scaled and never reduced.
 use Rattle.std.specs.Prelude.{◌≡◌, ℕ, zero, suc, ◌+◌, ◌-◌, ◌^◌, Bool, true, ◌&&◌, not, replicate, List, [], ◌∷◌, length, map, ℤ, pos, ◌+ℤ◌, slice_index_or}
 use Rattle.std.specs.List.{range_with_len}

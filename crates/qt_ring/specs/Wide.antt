@@ -1,5 +1,5 @@
 -- A product of two numbers of Z[ω] whose coefficients need more room than their factors', as a number of the ring
--- (OpenQASM 3.0 live specification, "Gates"; Cross et al. 2022, section 3.3: products of entries of matrices and states).
+-- (OpenQASM 3.0 live specification, "Gates"; Cross et al. 2022: products of entries of matrices and states).
 use Rattle.qt_ring.specs.declared.omega.Omega.{Omega}
 use Rattle.qt_ring.specs.declared.wide.Wide.{Wide}
 

@@ -1,5 +1,5 @@
 -- The real number that a mass stands for, and the one that a reduced number stands for.
--- A mass is the probability of an outcome (OpenQASM 3.0 live specification, "Quantum measurement and reset"; Cross et al. 2022, section 3.2).
+-- A mass is the probability of an outcome (OpenQASM 3.0 live specification, "Quantum measurement and reset"; Cross et al. 2022).
 use Rattle.qt_root2.specs.declared.mass.Mass.{Mass}
 use Rattle.qt_root2.specs.declared.mass.Reduced.{Reduced}
 use Rattle.qt_root2.specs.Real.{Real, least}

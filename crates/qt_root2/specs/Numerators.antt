@@ -1,5 +1,5 @@
 -- The numerators a + b√2 of weights and masses, which are over 2^96.
--- Both stand for |amplitude|² (OpenQASM 3.0 live specification, "Quantum measurement and reset"; Cross et al. 2022, section 3.2).
+-- Both stand for |amplitude|² (OpenQASM 3.0 live specification, "Quantum measurement and reset"; Cross et al. 2022).
 use Rattle.qt_root2.specs.declared.mass.Mass.{Mass}
 use Rattle.qt_root2.specs.declared.numerator.Numerator.{Numerator}
 use Rattle.qt_root2.specs.declared.weight.Weight.{Weight}

@@ -1,5 +1,5 @@
 -- Probabilities as exact real numbers (a + b√2) / 2^k, always over the least power of two, so that equal numbers are equal records.
--- |amplitude|² is such a number (OpenQASM 3.0 live specification, "Quantum measurement and reset"; Cross et al. 2022, section 3.2).
+-- |amplitude|² is such a number (OpenQASM 3.0 live specification, "Quantum measurement and reset"; Cross et al. 2022).
 use Rattle.std.specs.Prelude.{ℕ, zero, suc, ◌+◌, ◌-◌, ◌/◌, ◌%◌, ◌==◌, ℤ, pos, negsuc, ◌+ℤ◌, cond, Option, Some, None}
 
 -- (a + b√2) / 2^k

@@ -1,5 +1,5 @@
 -- The meaning of a program as the tree of its outcomes: a run goes from a point to the list of the leaves that it ends in,
--- in order (OpenQASM 3.0 live specification, "Quantum measurement and reset", "Gates"; Cross et al. 2022, section 3).
+-- in order (OpenQASM 3.0 live specification, "Quantum measurement and reset", "Gates"; Cross et al. 2022).
 -- A measurement gives, for the outcomes 0 and 1, the point with its projection and the outcome stored, where the projection
 -- isn't zero. Vectors are never scaled.
 use Rattle.std.specs.Prelude.{ℕ, ◌+◌, ◌-◌, ◌*◌, ◌^◌, Bool, true, false, List, [], ◌∷◌, ◌++◌}

@@ -10,7 +10,7 @@ use std::alloc::{AllocError, Global};
 use std::test::*;
 
 /// Texts that are programs, and how many first tokens are a program too.
-const PROGRAMS: [(&str, &[usize]); 17] = [
+const PROGRAMS: [(&str, &[usize]); 21] = [
     ("OPENQASM 3.0; h q;", &[0, 3]),
     (
         "OPENQASM 3; include \"stdgates.inc\"; include \"01\";",
@@ -67,6 +67,19 @@ const PROGRAMS: [(&str, &[usize]); 17] = [
         "return; return measure q; return x + 1; end;",
         &[0, 2, 6, 11],
     ),
+    (
+        "x = -(a) ** !b + sizeof(c, 1) * int[8](f(2, g())) - d[0, 1:2][{3}];",
+        &[0],
+    ),
+    (
+        "y = a || b && true | pi ^ 0x1F & c == d != e < 1 <= 2 > 3 >= 4 << 5 >> 6 / 7 % ~tau;",
+        &[0],
+    ),
+    (
+        "x = a[:] + a[1:] + a[:2] + a[:1:] + a[1:2:] + a[:1:2] + a[0:1:2] + bool(pi) ** uint(b) ** sizeof(z);",
+        &[0],
+    ),
+    ("def f() { } negctrl @ x q, r;", &[0, 6]),
 ];
 
 /// Texts that are no programs, each with the column of its stopper.
