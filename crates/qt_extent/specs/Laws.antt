@@ -14,8 +14,9 @@ abbrev pub AreSpelled : Type 0
 AreSpelled = (ts : ℕ → Terminal) → ((i : ℕ) → IsFaithful (ts i)) → AreNumbersAgain
     → (l : Limits) (p : Program) → SpellsProgram ts l p → AllLines IsSpelled (program_lines p)
 
--- The canonical text has at most 500 bytes for each byte of the tokens: the worst is a name of one byte that is a body without
--- braces at the deepest level, as it gets a margin of 128 bytes and two lines for its braces.
+-- The canonical text has at most 500 bytes for each byte of the tokens. That is a round bound, which no text reaches: a token of n bytes
+-- pays 401 bytes for a line of its word, with a margin of 128 and two braces, and at most 20 times n for its own text, so 421 for each
+-- byte at most. Texts grow less: a chain of `if(a)` without braces at the deepest levels, as `if(a)if(a)x=1;`, grows about 49 times.
 abbrev pub IsShort : Type 0
 IsShort = (ts : ℕ → Terminal) → ((i : ℕ) → IsFaithful (ts i)) → AreNumbersAgain
     → (l : Limits) (p : Program) → l.levels ≤ 64 → (h : SpellsProgram ts l p) → length (canonical p) ≤ 500 * total_length ts h.0
