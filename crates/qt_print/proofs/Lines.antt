@@ -4,22 +4,20 @@ use Rattle.qt_tree.specs.declared.expression.BinaryOp.{BinaryOp}
 use Rattle.qt_tree.specs.declared.expression.Expr.{Expr}
 use Rattle.qt_tree.specs.declared.expression.Scalar.{Scalar}
 use Rattle.qt_tree.specs.declared.label.Label.{Label}
-use Rattle.qt_tree.specs.declared.place.Place.{Place}
 use Rattle.qt_tree.specs.declared.statement.Operand.{Operand}
 use Rattle.qt_tree.specs.declared.statement.Target.{Target}
 use Rattle.qt_tree.specs.declared.statement.Right.{Right}
 use Rattle.qt_tree.specs.declared.statement.GateCall.{GateCall}
 use Rattle.qt_tree.specs.declared.statement.Sequence.{Sequence}
 use Rattle.qt_tree.specs.declared.statement.Statement.{Statement, out-Statement}
-use Rattle.qt_tree.specs.declared.statement.StatementForm.{StatementForm, roll-StatementForm}
+use Rattle.qt_tree.specs.declared.statement.StatementForm.{StatementForm}
 use Rattle.qt_tree.specs.declared.statement.StatementForm.TheVariants as s
-use Rattle.qt_tree.specs.declared.statement.StatementForm.TheOpen as o
-use Rattle.qt_tree.specs.declared.statement.StatementForm.TheFolds.{fold-roll-StatementForm, fold_out-Statement, map-StatementForm}
-use Rattle.qt_print.specs.Words.{Word, word, name, keyword, operator, semicolon, parenthesized}
-use Rattle.qt_print.specs.Expressions.{expr_words, list_words}
+use Rattle.qt_tree.specs.declared.statement.StatementForm.TheFolds.{fold_out-Statement}
+use Rattle.qt_print.specs.Words.{Word, semicolon}
 use Rattle.qt_print.specs.Statements.{Line, line, indented, all_lines, sentence, block, two_blocks, body_start, body_end, else_word, form_step, statement_step, form_lines, statement_lines, declaration_words, register_words, constant_words, alias_words, assignment_words, compound_words, measurement_words, reset_words, barrier_words, call_words, subroutine_words, condition_words, for_words, single_words, return_words}
-use Rattle.qt_print.specs.Page.{Sheet, put_on, puts, begun, ended, put_sentence, put_line, put_lines, put_body, put_block, put_else, put_if, each_lines}
+use Rattle.qt_print.specs.Page.{Sheet, put_on, puts, begun, ended, put_sentence, put_line, put_lines, put_body, put_block, put_if, each_lines}
 use Rattle.qt_print.proofs.Puts.{puts_both}
+use Rattle.qt_print.proofs.Forms.{declaration_lines, register_lines, constant_lines, alias_lines, assignment_lines, compound_lines, measurement_lines, reset_lines, barrier_lines, gate_lines, subroutine_lines, break_lines, continue_lines, return_lines, end_lines, while_lines, for_lines, if_lines, if_else_lines}
 
 pub lines_both : (sheet : Sheet) (depth : ℕ) (xs ys : List Line) → put_lines sheet depth (xs ++ ys) ≡ put_lines (put_lines sheet depth xs) depth ys
 lines_both sheet depth [] ys = refl
@@ -71,67 +69,68 @@ module _ {A : Type 0} (lines : A → List Line) where
       ap (λ t. put_lines t depth (all_lines (map lines (drop (i + 1) xs)))) h
       ∙ (sym (lines_both s depth (lines x) (all_lines (map lines (drop (i + 1) xs)))) ∙ ap (λ t. put_lines s depth (all_lines t)) (sym drops))
 
-form_rolls : (layer : o.StatementForm-F StatementForm Statement) → form_lines (roll-StatementForm layer) ≡ form_step (map-StatementForm StatementForm Statement (List Line) (List Line) form_lines statement_lines layer)
-form_rolls = fold-roll-StatementForm (List Line) (List Line) form_step statement_step
-
 pub statement_is : (statement : Statement) → statement_lines statement ≡ form_lines (out-Statement statement).form
 statement_is statement = fold_out-Statement (List Line) (List Line) form_step statement_step statement
 
 module _ (sheet : Sheet) (depth : ℕ) where
+  -- a form of one line
+  line_of : {lines : List Line} (words : List Word) → lines ≡ sentence words → put_lines sheet depth lines ≡ put_sentence (begun sheet depth) words
+  line_of words e = ap (put_lines sheet depth) e ∙ sentence_put sheet depth words
+
   pub declaration_put : (scalar : Scalar) (text : Label) (value : Option Right) → put_lines sheet depth (form_lines (s.Declaration scalar text value)) ≡ put_sentence (begun sheet depth) (declaration_words scalar text value)
-  declaration_put scalar text value = ap (put_lines sheet depth) (ap form_lines (sym (s.rolls-Declaration scalar text value)) ∙ form_rolls (o.Declaration scalar text value)) ∙ sentence_put sheet depth (declaration_words scalar text value)
+  declaration_put scalar text value = line_of (declaration_words scalar text value) (declaration_lines scalar text value)
 
   pub register_put : (text : Label) (size : Option Expr) → put_lines sheet depth (form_lines (s.BitRegister text size)) ≡ put_sentence (begun sheet depth) (register_words (codes "creg") text size)
-  register_put text size = ap (put_lines sheet depth) (ap form_lines (sym (s.rolls-BitRegister text size)) ∙ form_rolls (o.BitRegister text size)) ∙ sentence_put sheet depth (register_words (codes "creg") text size)
+  register_put text size = line_of (register_words (codes "creg") text size) (register_lines text size)
 
   pub constant_put : (scalar : Scalar) (text : Label) (value : Expr) → put_lines sheet depth (form_lines (s.Constant scalar text value)) ≡ put_sentence (begun sheet depth) (constant_words scalar text value)
-  constant_put scalar text value = ap (put_lines sheet depth) (ap form_lines (sym (s.rolls-Constant scalar text value)) ∙ form_rolls (o.Constant scalar text value)) ∙ sentence_put sheet depth (constant_words scalar text value)
+  constant_put scalar text value = line_of (constant_words scalar text value) (constant_lines scalar text value)
 
   pub alias_put : (text : Label) (parts : List Operand) → put_lines sheet depth (form_lines (s.Alias text parts)) ≡ put_sentence (begun sheet depth) (alias_words text parts)
-  alias_put text parts = ap (put_lines sheet depth) (ap form_lines (sym (s.rolls-Alias text parts)) ∙ form_rolls (o.Alias text parts)) ∙ sentence_put sheet depth (alias_words text parts)
+  alias_put text parts = line_of (alias_words text parts) (alias_lines text parts)
 
   pub assignment_put : (target : Target) (value : Right) → put_lines sheet depth (form_lines (s.Assignment target value)) ≡ put_sentence (begun sheet depth) (assignment_words target value)
-  assignment_put target value = ap (put_lines sheet depth) (ap form_lines (sym (s.rolls-Assignment target value)) ∙ form_rolls (o.Assignment target value)) ∙ sentence_put sheet depth (assignment_words target value)
+  assignment_put target value = line_of (assignment_words target value) (assignment_lines target value)
 
   pub compound_put : (target : Target) (op : BinaryOp) (value : Expr) → put_lines sheet depth (form_lines (s.CompoundAssignment target op value)) ≡ put_sentence (begun sheet depth) (compound_words target op value)
-  compound_put target op value = ap (put_lines sheet depth) (ap form_lines (sym (s.rolls-CompoundAssignment target op value)) ∙ form_rolls (o.CompoundAssignment target op value)) ∙ sentence_put sheet depth (compound_words target op value)
+  compound_put target op value = line_of (compound_words target op value) (compound_lines target op value)
 
   pub measurement_put : (qubits : Operand) (target : Option Target) → put_lines sheet depth (form_lines (s.Measure qubits target)) ≡ put_sentence (begun sheet depth) (measurement_words qubits target)
-  measurement_put qubits target = ap (put_lines sheet depth) (ap form_lines (sym (s.rolls-Measure qubits target)) ∙ form_rolls (o.Measure qubits target)) ∙ sentence_put sheet depth (measurement_words qubits target)
+  measurement_put qubits target = line_of (measurement_words qubits target) (measurement_lines qubits target)
 
   pub reset_put : (qubits : Operand) → put_lines sheet depth (form_lines (s.Reset qubits)) ≡ put_sentence (begun sheet depth) (reset_words qubits)
-  reset_put qubits = ap (put_lines sheet depth) (ap form_lines (sym (s.rolls-Reset qubits)) ∙ form_rolls (o.Reset qubits)) ∙ sentence_put sheet depth (reset_words qubits)
+  reset_put qubits = line_of (reset_words qubits) (reset_lines qubits)
 
   pub barrier_put : (qubits : List Operand) → put_lines sheet depth (form_lines (s.Barrier qubits)) ≡ put_sentence (begun sheet depth) (barrier_words qubits)
-  barrier_put qubits = ap (put_lines sheet depth) (ap form_lines (sym (s.rolls-Barrier qubits)) ∙ form_rolls (o.Barrier qubits)) ∙ sentence_put sheet depth (barrier_words qubits)
+  barrier_put qubits = line_of (barrier_words qubits) (barrier_lines qubits)
 
   pub gate_put : (call : GateCall) → put_lines sheet depth (form_lines (s.Gate call)) ≡ put_sentence (begun sheet depth) (call_words call)
-  gate_put call = ap (put_lines sheet depth) (ap form_lines (sym (s.rolls-Gate call)) ∙ form_rolls (o.Gate call)) ∙ sentence_put sheet depth (call_words call)
+  gate_put call = line_of (call_words call) (gate_lines call)
 
   pub subroutine_put : (text : Label) (arguments : List Expr) → put_lines sheet depth (form_lines (s.Call text arguments)) ≡ put_sentence (begun sheet depth) (subroutine_words text arguments)
-  subroutine_put text arguments = ap (put_lines sheet depth) (ap form_lines (sym (s.rolls-Call text arguments)) ∙ form_rolls (o.Call text arguments)) ∙ sentence_put sheet depth (subroutine_words text arguments)
+  subroutine_put text arguments = line_of (subroutine_words text arguments) (subroutine_lines text arguments)
 
   pub break_put : put_lines sheet depth (form_lines s.Break) ≡ put_sentence (begun sheet depth) (single_words (codes "break"))
-  break_put = ap (put_lines sheet depth) (ap form_lines (sym s.rolls-Break) ∙ form_rolls o.Break) ∙ sentence_put sheet depth (single_words (codes "break"))
+  break_put = line_of (single_words (codes "break")) break_lines
 
   pub continue_put : put_lines sheet depth (form_lines s.Continue) ≡ put_sentence (begun sheet depth) (single_words (codes "continue"))
-  continue_put = ap (put_lines sheet depth) (ap form_lines (sym s.rolls-Continue) ∙ form_rolls o.Continue) ∙ sentence_put sheet depth (single_words (codes "continue"))
+  continue_put = line_of (single_words (codes "continue")) continue_lines
 
   pub return_put : (value : Option Right) → put_lines sheet depth (form_lines (s.Return value)) ≡ put_sentence (begun sheet depth) (return_words value)
-  return_put value = ap (put_lines sheet depth) (ap form_lines (sym (s.rolls-Return value)) ∙ form_rolls (o.Return value)) ∙ sentence_put sheet depth (return_words value)
+  return_put value = line_of (return_words value) (return_lines value)
 
   pub end_put : put_lines sheet depth (form_lines s.End) ≡ put_sentence (begun sheet depth) (single_words (codes "end"))
-  end_put = ap (put_lines sheet depth) (ap form_lines (sym s.rolls-End) ∙ form_rolls o.End) ∙ sentence_put sheet depth (single_words (codes "end"))
+  end_put = line_of (single_words (codes "end")) end_lines
 
   pub if_put : (condition : Expr) (body : List Statement) (other : Option (List Statement)) → put_lines sheet depth (form_lines (s.If condition body other)) ≡ put_if (begun sheet depth) depth (condition_words (codes "if") condition) (map statement_lines body) (each_lines other)
-  if_put condition body None = ap (put_lines sheet depth) (ap form_lines (sym (s.rolls-If condition body None)) ∙ form_rolls (o.If condition body None)) ∙ block_put sheet depth (condition_words (codes "if") condition) (map statement_lines body)
-  if_put condition body (Some other) = ap (put_lines sheet depth) (ap form_lines (sym (s.rolls-If condition body (Some other))) ∙ form_rolls (o.If condition body (Some other))) ∙ two_blocks_put sheet depth (condition_words (codes "if") condition) (map statement_lines body) (map statement_lines other)
+  if_put condition body None = ap (put_lines sheet depth) (if_lines condition body) ∙ block_put sheet depth (condition_words (codes "if") condition) (map statement_lines body)
+  if_put condition body (Some other) = ap (put_lines sheet depth) (if_else_lines condition body other) ∙ two_blocks_put sheet depth (condition_words (codes "if") condition) (map statement_lines body) (map statement_lines other)
 
   pub while_put : (condition : Expr) (body : List Statement) → put_lines sheet depth (form_lines (s.While condition body)) ≡ put_block (begun sheet depth) depth (condition_words (codes "while") condition) (map statement_lines body)
-  while_put condition body = ap (put_lines sheet depth) (ap form_lines (sym (s.rolls-While condition body)) ∙ form_rolls (o.While condition body)) ∙ block_put sheet depth (condition_words (codes "while") condition) (map statement_lines body)
+  while_put condition body = ap (put_lines sheet depth) (while_lines condition body) ∙ block_put sheet depth (condition_words (codes "while") condition) (map statement_lines body)
 
   pub for_put : (scalar : Scalar) (text : Label) (values : Sequence) (body : List Statement) → put_lines sheet depth (form_lines (s.For scalar text values body)) ≡ put_block (begun sheet depth) depth (for_words scalar text values) (map statement_lines body)
-  for_put scalar text values body = ap (put_lines sheet depth) (ap form_lines (sym (s.rolls-For scalar text values body)) ∙ form_rolls (o.For scalar text values body)) ∙ block_put sheet depth (for_words scalar text values) (map statement_lines body)
+  for_put scalar text values body = ap (put_lines sheet depth) (for_lines scalar text values body) ∙ block_put sheet depth (for_words scalar text values) (map statement_lines body)
 
 pub ruleset forms = (declaration_put, register_put, constant_put, alias_put, assignment_put, compound_put, measurement_put, reset_put, barrier_put, gate_put, subroutine_put, break_put, continue_put, return_put, end_put, if_put, while_put, for_put)
 

@@ -1,6 +1,6 @@
 -- Putting words on a page.
-use Rattle.std.proofs.Common.{◌≡◌, ℕ, zero, suc, ◌+◌, ◌-◌, ◌<◌, Bool, true, false, Option, Some, None, List, [], ◌∷◌, ◌++◌, map, drop, get_or, add-one, drop-cons, length, refl, sym, ◌∙◌, ap, subst, arith}
-use Rattle.qt_print.specs.Words.{Word, comma, joined, each_behind, separated}
+use Rattle.std.proofs.Common.{◌≡◌, ℕ, suc, ◌+◌, ◌-◌, ◌<◌, ◌⊎◌, inl, inr, Bool, true, false, List, [], ◌∷◌, ◌++◌, map, drop, get_or, add-one, drop-cons, length, refl, sym, ◌∙◌, ap, subst}
+use Rattle.qt_print.specs.Words.{Word, joined, each_behind, separated}
 use Rattle.qt_print.specs.Page.{Sheet, put_on, puts}
 
 pub puts_both : (sheet : Sheet) (xs ys : List Word) → puts sheet (xs ++ ys) ≡ puts (puts sheet xs) ys
@@ -26,9 +26,14 @@ module _ {A : Type 0} (words : A → List Word) where
   behind_turn between s s1 s' xs i x lt e g h = ap (λ t. puts t (each_behind between (map words (drop (i + 1) xs)))) (h ∙ ap (λ t. puts t (words x)) g)
       ∙ (sym (puts_both (put_on s between) (words x) (each_behind between (map words (drop (i + 1) xs)))) ∙ ap (λ t. puts s (each_behind between t)) (sym (drops xs i x lt e)))
 
-  -- a turn of a loop that puts parts with a word between, the first of them or a later one
-  pub separated_first : (between : Word) (b : Bool) → b ≡ true → (s s1 s' : Sheet) (xs : List A) (i : ℕ) (x : A) → i < length xs → x ≡ get_or xs i x → s1 ≡ s → s' ≡ puts s1 (words x) → puts s' (still_separated false between (map words (drop (i + 1) xs))) ≡ puts s (still_separated b between (map words (drop i xs)))
-  separated_first between b z s s1 s' xs i x lt e g h = subst (λ t. puts s' (each_behind between (map words (drop (i + 1) xs))) ≡ puts s (still_separated t between (map words (drop i xs)))) (sym z) (first_turn between s s' xs i x lt e (h ∙ ap (λ t. puts t (words x)) g))
-
-  pub separated_next : (between : Word) (b : Bool) → b ≡ false → (s s1 s' : Sheet) (xs : List A) (i : ℕ) (x : A) → i < length xs → x ≡ get_or xs i x → s1 ≡ put_on s between → s' ≡ puts s1 (words x) → puts s' (still_separated false between (map words (drop (i + 1) xs))) ≡ puts s (still_separated b between (map words (drop i xs)))
-  separated_next between b z s s1 s' xs i x lt e g h = subst (λ t. puts s' (each_behind between (map words (drop (i + 1) xs))) ≡ puts s (still_separated t between (map words (drop i xs)))) (sym z) (behind_turn between s s1 s' xs i x lt e g h)
+  -- a turn of a loop that puts parts with a word between: the first of them, or a later one behind that word
+  pub separated_turn : (between : Word) (b : Bool) (s s1 s' : Sheet) (xs : List A) (i : ℕ) (x : A) → i < length xs → x ≡ get_or xs i x → ((b ≡ true) × (s1 ≡ s)) ⊎ ((b ≡ false) × (s1 ≡ put_on s between)) → s' ≡ puts s1 (words x)
+      → puts s' (still_separated false between (map words (drop (i + 1) xs))) ≡ puts s (still_separated b between (map words (drop i xs)))
+  separated_turn between b s s1 s' xs i x lt e step h = elim step [
+    | inl first ↦ at_test true first.0 (first_turn between s s' xs i x lt e (h ∙ ap (λ t. puts t (words x)) first.1))
+    | inr later ↦ at_test false later.0 (behind_turn between s s1 s' xs i x lt e later.1 h)
+  ]
+    where
+      at_test : (v : Bool) → b ≡ v → puts s' (each_behind between (map words (drop (i + 1) xs))) ≡ puts s (still_separated v between (map words (drop i xs)))
+          → puts s' (each_behind between (map words (drop (i + 1) xs))) ≡ puts s (still_separated b between (map words (drop i xs)))
+      at_test v z g = subst (λ t. puts s' (each_behind between (map words (drop (i + 1) xs))) ≡ puts s (still_separated t between (map words (drop i xs)))) (sym z) g

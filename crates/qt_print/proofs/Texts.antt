@@ -1,20 +1,16 @@
 -- What is put on a page is the text of the words and the lines.
-use Rattle.std.proofs.Common.{◌≡◌, ℕ, ◌+◌, List, [], ◌∷◌, ◌++◌, map, Option, Some, None, refl, ap, sym, ◌∙◌, append_assoc}
+use Rattle.std.proofs.Common.{◌≡◌, ℕ, ◌+◌, List, [], ◌∷◌, ◌++◌, map, Some, None, ap, sym, ◌∙◌, append_assoc}
+use Rattle.std.proofs.lemmas.List.{append-nil}
 use Rattle.qt_tree.specs.declared.program.Program.{Program}
-use Rattle.qt_print.specs.declared.role.Role.{Role}
 use Rattle.qt_print.specs.Words.{Word}
 use Rattle.qt_print.specs.Statements.{Line, all_lines}
 use Rattle.qt_print.specs.Programs.{first_lines, item_lines, program_lines}
 use Rattle.qt_print.specs.Text.{margin, gap, spread, line_text, lines_text, canonical}
-use Rattle.qt_print.specs.Page.{Sheet, blank, put_on, puts, begun, ended, put_line, put_lines}
+use Rattle.qt_print.specs.Page.{Sheet, blank, put_on, puts, begun, put_line, put_lines}
 use Rattle.qt_print.proofs.Lines.{lines_both}
 
-nothing_behind : (xs : List ℕ) → xs ≡ xs ++ []
-nothing_behind [] = refl
-nothing_behind (x ∷ xs) = ap (λ t. x ∷ t) (nothing_behind xs)
-
 puts_text : (sheet : Sheet) (words : List Word) → (puts sheet words).text ≡ sheet.text ++ spread sheet.last words
-puts_text sheet [] = nothing_behind sheet.text
+puts_text sheet [] = sym (append-nil sheet.text)
 puts_text sheet (word ∷ words) =
     puts_text (put_on sheet word) words
     ∙ (append_assoc sheet.text (gap sheet.last word.role ++ word.text) (spread (Some word.role) words)
@@ -27,7 +23,7 @@ put_line_text sheet depth words =
     ∙ append_assoc sheet.text (margin depth) (spread None words ++ 10 ∷ []))
 
 put_lines_text : (sheet : Sheet) (depth : ℕ) (lines : List Line) → (put_lines sheet depth lines).text ≡ sheet.text ++ lines_text depth lines
-put_lines_text sheet depth [] = nothing_behind sheet.text
+put_lines_text sheet depth [] = sym (append-nil sheet.text)
 put_lines_text sheet depth (line ∷ lines) =
     put_lines_text (put_line sheet (depth + line.depth) line.words) depth lines
     ∙ (ap (λ t. t ++ lines_text depth lines) (put_line_text sheet (depth + line.depth) line.words)
