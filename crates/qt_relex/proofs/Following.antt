@@ -1,5 +1,5 @@
 -- Which bytes may follow a word, so that nothing longer begins where it begins.
-use Rattle.std.proofs.Common.{◌≡◌, ℕ, ◌+◌, ◌≤◌, inl, inr, Bool, true, false, not, ◌&&◌, ◌||◌, eqb, leb, cond, List, [], ◌∷◌, ◌++◌, length, codes, refl, sym, ◌∙◌, ap, subst, arith}
+use Rattle.std.proofs.Common.{◌≡◌, ℕ, ◌+◌, ◌≤◌, inl, inr, Bool, true, false, not, ◌&&◌, ◌||◌, eqb, leb, cond, bytes_eq, List, [], ◌∷◌, ◌++◌, length, codes, refl, sym, ◌∙◌, ap, subst, arith}
 use Rattle.qt_lex.specs.declared.number.Radix.{Radix}
 use Rattle.qt_lex.specs.declared.number.Radix.TheVariants as radix
 use Rattle.qt_lex.specs.Bytes.{is_digit, is_name_byte, is_name_start, is_blank, is_quote, symbols, stands, IsOneOf, time_units, imaginary_units}
@@ -10,6 +10,7 @@ use Rattle.qt_lex.proofs.Tables.{and_left, and_right, or_cases, not_true, not_fa
 use Rattle.qt_lex.proofs.Heads.{may_begin_number}
 use Rattle.qt_lex.proofs.Numbers.{is_mark}
 use Rattle.qt_wording.specs.Spelling.{IsAmong}
+use Rattle.qt_wording.proofs.Tables.{among, same_is}
 use Rattle.qt_relex.proofs.Agreeing.{both, eqb_equal}
 
 -- ---- words and numbers
@@ -111,16 +112,6 @@ begins [] x = true
 begins (y ∷ ys) [] = false
 begins (y ∷ ys) (x ∷ xs) = eqb y x && begins ys xs
 
-abbrev pub same : List ℕ → List ℕ → Bool
-same [] [] = true
-same [] (y ∷ ys) = false
-same (x ∷ xs) [] = false
-same (x ∷ xs) (y ∷ ys) = eqb x y && same xs ys
-
-abbrev pub among : List (List ℕ) → List ℕ → Bool
-among [] x = false
-among (y ∷ ys) x = same x y || among ys x
-
 abbrev pub each : (List ℕ → Bool) → List (List ℕ) → Bool
 each p [] = true
 each p (x ∷ xs) = p x && each p xs
@@ -131,12 +122,6 @@ each_among p [] text h m = absurd m
 each_among p (x ∷ xs) text h (inl e) = ap p e ∙ and_left (p x) (each p xs) h
 each_among p (x ∷ xs) text h (inr m) = each_among p xs text (and_right (p x) (each p xs) h) m
 
-same_is : (xs ys : List ℕ) → same xs ys ≡ true → xs ≡ ys
-same_is [] [] h = refl
-same_is [] (y ∷ ys) h = cc h
-same_is (x ∷ xs) [] h = cc h
-same_is (x ∷ xs) (y ∷ ys) h = ap (λ t. t ∷ xs) (eqb_same x y (and_left (eqb x y) (same xs ys) h)) ∙ ap (λ t. y ∷ t) (same_is xs ys (and_right (eqb x y) (same xs ys) h))
-
 none_both : (xs ys : List ℕ) (c : ℕ) → none_of (xs ++ ys) c ≡ true → (none_of xs c ≡ true) × (none_of ys c ≡ true)
 none_both [] ys c h = (refl, h)
 none_both (x ∷ xs) ys c h =
@@ -146,7 +131,7 @@ none_both (x ∷ xs) ys c h =
 module _ (b : ℕ → ℕ) where
   pub one_of : (t : List (List ℕ)) (x : List ℕ) (i : ℕ) → among t x ≡ true → stands b x i ≡ true → IsOneOf b t i (i + length x)
   one_of [] x i h g = absurd (cc h)
-  one_of (y ∷ ys) x i h g = elim (or_cases (same x y) (among ys x) h) [
+  one_of (y ∷ ys) x i h g = elim (or_cases (bytes_eq x y) (among ys x) h) [
     | inl e ↦ let z : x ≡ y = same_is x y e in inl (subst (λ t. stands b t i ≡ true) z g, ap (λ t. i + length t) z)
     | inr m ↦ inr (one_of ys x i m g)
   ]

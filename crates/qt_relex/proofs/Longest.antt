@@ -16,7 +16,8 @@ use Rattle.qt_lex.proofs.Decimals.{unpointed_longest, pointed_longest, fraction_
 use Rattle.qt_lex.proofs.Longest.{decimal_is, whole_is}
 use Rattle.qt_lex.proofs.Spans.{token_some}
 use Rattle.qt_relex.proofs.Agreeing.{exponent_some, one_back, test_there, each_there, integer_there, decimal_there, text_there, wide_there, stands_byte}
-use Rattle.qt_relex.proofs.Following.{continues, no_name_byte, no_digit, no_decimal_byte, no_mark, no_exponent, no_t, stops, no_time_unit, no_imaginary_unit, name_is_solid, number_is_solid, quote_is_solid, solid_by_byte, none_of, nexts, next, ends_symbol, begins, among, one_of, none_longer, no_opening}
+use Rattle.qt_wording.proofs.Tables.{among}
+use Rattle.qt_relex.proofs.Following.{continues, no_name_byte, no_digit, no_decimal_byte, no_mark, no_exponent, no_t, stops, no_time_unit, no_imaginary_unit, name_is_solid, number_is_solid, quote_is_solid, solid_by_byte, none_of, nexts, next, ends_symbol, begins, one_of, none_longer, no_opening}
 
 sign_no_digit : (c : ℕ) → is_exponent_sign c ≡ true → is_digit c ≡ false
 sign_no_digit c h = grind arith

@@ -9,7 +9,8 @@ use Rattle.qt_print.specs.declared.role.Role.{Role}
 use Rattle.qt_print.specs.declared.role.Role.TheVariants as r
 use Rattle.qt_print.specs.Spacing.{is_spaced, is_item, is_body_start, has_space}
 use Rattle.qt_wording.specs.Spelling.{kind_of, IsAmong, IsSpelledAs}
-use Rattle.qt_relex.proofs.Following.{continues, ends_symbol, begins, among, each, each_among}
+use Rattle.qt_wording.proofs.Tables.{among, texts_of}
+use Rattle.qt_relex.proofs.Following.{continues, ends_symbol, begins, each, each_among}
 use Rattle.qt_relex.proofs.Longest.{Found, name_found, reserved_found, constant_found, integer_found, decimal_found, text_found, symbol_found}
 
 -- may this byte stand right behind this word?
@@ -73,16 +74,7 @@ module _ (b : ℕ → ℕ) (text : List ℕ) (i : ℕ) (here : stands b text i �
   found r.Else h e = keyword_found h e
   found r.In h e = keyword_found h e
   found r.Operator h e = sign_found (each_among is_symbol symbols text symbols_are h) e
-  found r.Sign h e = sign_found (each_among is_symbol signs text refl h) e
-  found r.Comma h e = sign_found (each_among is_symbol (codes "," ∷ []) text refl h) e
-  found r.Colon h e = sign_found (each_among is_symbol (codes ":" ∷ []) text refl h) e
-  found r.Semicolon h e = sign_found (each_among is_symbol (codes ";" ∷ []) text refl h) e
-  found r.Opening h e = sign_found (each_among is_symbol openings text refl h) e
-  found r.ClosingParenthesis h e = sign_found (each_among is_symbol (codes ")" ∷ []) text refl h) e
-  found r.ClosingBracket h e = sign_found (each_among is_symbol (codes "]" ∷ []) text refl h) e
-  found r.ClosingBrace h e = sign_found (each_among is_symbol (codes "}" ∷ []) text refl h) e
-  found r.BodyStart h e = sign_found (each_among is_symbol (codes "{" ∷ []) text refl h) e
-  found r.BodyEnd h e = sign_found (each_among is_symbol (codes "}" ∷ []) text refl h) e
+  found role h e = sign_found (each_among is_symbol (texts_of role) text refl h) e
 
 -- ---- no word is empty
 
@@ -97,22 +89,7 @@ spelled_some r.Name text h = h.0.some
 spelled_some r.Integer text h = token_some (byte text) kind.Integer 0 (length text) h
 spelled_some r.Decimal text h = token_some (byte text) kind.Decimal 0 (length text) h
 spelled_some r.Text text h = token_some (byte text) kind.Text 0 (length text) h
-spelled_some r.Constant text h = some_among letters text refl h
-spelled_some r.Keyword text h = some_among reserved_words text refl h
-spelled_some r.Head text h = some_among reserved_words text refl h
-spelled_some r.Else text h = some_among reserved_words text refl h
-spelled_some r.In text h = some_among reserved_words text refl h
-spelled_some r.Operator text h = some_among symbols text refl h
-spelled_some r.Sign text h = some_among signs text refl h
-spelled_some r.Comma text h = some_among (codes "," ∷ []) text refl h
-spelled_some r.Colon text h = some_among (codes ":" ∷ []) text refl h
-spelled_some r.Semicolon text h = some_among (codes ";" ∷ []) text refl h
-spelled_some r.Opening text h = some_among openings text refl h
-spelled_some r.ClosingParenthesis text h = some_among (codes ")" ∷ []) text refl h
-spelled_some r.ClosingBracket text h = some_among (codes "]" ∷ []) text refl h
-spelled_some r.ClosingBrace text h = some_among (codes "}" ∷ []) text refl h
-spelled_some r.BodyStart text h = some_among (codes "{" ∷ []) text refl h
-spelled_some r.BodyEnd text h = some_among (codes "}" ∷ []) text refl h
+spelled_some role text h = some_among (texts_of role) text refl h
 
 -- ---- blanks
 
@@ -172,21 +149,9 @@ mild r.Name text h e = name_mild (byte text 0) h.0.first
 mild r.Integer text h e = integer_mild text h
 mild r.Decimal text h e = number_mild (byte text 0) (decimal_head (byte text) 0 (length text) h)
 mild r.Text text h e = quote_mild (byte text 0) h.0.quote
-mild r.Constant text h e = each_among (λ x. is_mild (byte x 0)) letters text refl h
-mild r.Keyword text h e = each_among (λ x. is_mild (byte x 0)) reserved_words text refl h
-mild r.Head text h e = each_among (λ x. is_mild (byte x 0)) reserved_words text refl h
-mild r.Else text h e = each_among (λ x. is_mild (byte x 0)) reserved_words text refl h
-mild r.Sign text h e = each_among (λ x. is_mild (byte x 0)) signs text refl h
-mild r.Comma text h e = each_among (λ x. is_mild (byte x 0)) (codes "," ∷ []) text refl h
-mild r.Colon text h e = each_among (λ x. is_mild (byte x 0)) (codes ":" ∷ []) text refl h
-mild r.Semicolon text h e = each_among (λ x. is_mild (byte x 0)) (codes ";" ∷ []) text refl h
-mild r.Opening text h e = each_among (λ x. is_mild (byte x 0)) openings text refl h
-mild r.ClosingParenthesis text h e = each_among (λ x. is_mild (byte x 0)) (codes ")" ∷ []) text refl h
-mild r.ClosingBracket text h e = each_among (λ x. is_mild (byte x 0)) (codes "]" ∷ []) text refl h
-mild r.ClosingBrace text h e = each_among (λ x. is_mild (byte x 0)) (codes "}" ∷ []) text refl h
-mild r.BodyStart text h e = each_among (λ x. is_mild (byte x 0)) (codes "{" ∷ []) text refl h
-mild r.BodyEnd text h e = each_among (λ x. is_mild (byte x 0)) (codes "}" ∷ []) text refl h
-mild _ text h e = cc e
+mild r.In text h e = cc e
+mild r.Operator text h e = cc e
+mild role text h e = each_among (λ x. is_mild (byte x 0)) (texts_of role) text refl h
 
 mild_ends : (c : ℕ) → is_mild c ≡ true → each (λ x. ends_symbol x c) signs ≡ true
 mild_ends c h = grind arith
@@ -204,12 +169,4 @@ touch r.In following text text' h g e = cc e
 touch r.Operator following text text' h g e = cc e
 touch r.Text following text text' h g e = refl
 touch r.Sign following text text' h g e = each_among (λ x. ends_symbol x (byte text' 0)) signs text (mild_ends (byte text' 0) (mild following text' g (or_no_left (is_spaced following) _ e))) h
-touch r.Comma following text text' h g e = each_among (λ x. ends_symbol x (byte text' 0)) (codes "," ∷ []) text refl h
-touch r.Colon following text text' h g e = each_among (λ x. ends_symbol x (byte text' 0)) (codes ":" ∷ []) text refl h
-touch r.Semicolon following text text' h g e = each_among (λ x. ends_symbol x (byte text' 0)) (codes ";" ∷ []) text refl h
-touch r.Opening following text text' h g e = each_among (λ x. ends_symbol x (byte text' 0)) openings text refl h
-touch r.ClosingParenthesis following text text' h g e = each_among (λ x. ends_symbol x (byte text' 0)) (codes ")" ∷ []) text refl h
-touch r.ClosingBracket following text text' h g e = each_among (λ x. ends_symbol x (byte text' 0)) (codes "]" ∷ []) text refl h
-touch r.ClosingBrace following text text' h g e = each_among (λ x. ends_symbol x (byte text' 0)) (codes "}" ∷ []) text refl h
-touch r.BodyStart following text text' h g e = each_among (λ x. ends_symbol x (byte text' 0)) (codes "{" ∷ []) text refl h
-touch r.BodyEnd following text text' h g e = each_among (λ x. ends_symbol x (byte text' 0)) (codes "}" ∷ []) text refl h
+touch last following text text' h g e = each_among (λ x. ends_symbol x (byte text' 0)) (texts_of last) text refl h
