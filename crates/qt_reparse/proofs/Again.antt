@@ -1,5 +1,6 @@
 -- What was read, written in canonical words, is read again the same: one lemma for each way to build a form.
 use Rattle.std.proofs.Common.{◌≡◌, ℕ, zero, suc, ◌+◌, ◌⊎◌, inl, inr, false, IsTrue, List, [], ◌∷◌, ◌++◌, Option, Some, None, refl, sym, ◌∙◌, ap, subst, append_assoc}
+use Rattle.std.proofs.lemmas.List.{append-nil}
 use Rattle.qt_words.specs.Words.{code, is_operator}
 use Rattle.qt_words.specs.Terminals.{Terminal}
 use Rattle.qt_grammar.specs.Form.{member, within, begun, since, Reading, ReadsOne, ReadsOperator, ReadsThen, ReadsMore, ReadsChain, pair_of, stepped}
@@ -7,7 +8,7 @@ use Rattle.qt_print.specs.Words.{Word}
 use Rattle.qt_wording.specs.Faithful.{IsFaithful}
 use Rattle.qt_wording.specs.Spelling.{meaning}
 use Rattle.qt_wording.specs.Written.{Written}
-use Rattle.qt_reparse.proofs.Streams.{Streams, At, written_split, nothing_behind, one_further}
+use Rattle.qt_reparse.proofs.Streams.{Streams, At, written_split, one_further}
 
 abbrev pub Any : ℕ → Type 0
 Any j = Unit {0}
@@ -177,7 +178,7 @@ module _ {z : Streams} where
           × ((i' j' : ℕ) → Written z.new l i' j' → F j' → F i' × (At z i i' → (c' : C) → U c c' → (v' : C) × More' n c' i' v' j' × U v v' × At z j j'))
       more zero c i v j sofar x (e, g) = (
         [],
-        subst (λ t. X t (sofar ++ [])) (sym e) (subst (X c) (nothing_behind sofar) x),
+        subst (λ t. X t (sofar ++ [])) (sym e) (subst (X c) (sym (append-nil sofar)) x),
         λ i' j' has f. (subst F has f, λ at c' s. (c', (refl, has), subst (λ t. U t c') (sym e) s, subst (λ t. At z t j') (sym g) (subst (λ t. At z i t) (sym has) at))),
       )
       more (suc n) c i v j sofar x (y, m, (sep, operand, k, hq, hp, e), t) =

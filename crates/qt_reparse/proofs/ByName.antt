@@ -1,17 +1,19 @@
 -- The statements that begin with a name: assignments, calls of subroutines and calls of gates.
 use Rattle.std.proofs.Common.{◌≡◌, ℕ, List, [], ◌∷◌, ◌++◌, Option, Some, None, refl, sym, ◌∙◌, ap, append_assoc}
+use Rattle.std.proofs.lemmas.List.{append-nil}
 use Rattle.qt_tree.specs.declared.expression.Expr.{Expr}
+use Rattle.qt_tree.specs.declared.statement.GateCall.{GateCall}
 use Rattle.qt_tree.specs.declared.statement.Operand.{Operand}
 use Rattle.qt_tree.specs.declared.statement.Target.{Target}
 use Rattle.qt_tree.specs.declared.statement.CalledGate.TheVariants as g
 use Rattle.qt_tree.specs.declared.statement.StatementForm.{StatementForm}
 use Rattle.qt_tree.specs.declared.statement.StatementForm.TheVariants as form_of
+use Rattle.qt_words.specs.declared.word.Word.TheVariants as w
 use Rattle.qt_grammar.specs.Language.{ended, of_which, compounds, compound_op, behind_target, call_of, behind_first_name, by_name}
 use Rattle.qt_print.specs.Words.{Word, name, semicolon, parenthesized, optional as optional_words}
 use Rattle.qt_print.specs.Expressions.{expr_words, list_words}
-use Rattle.qt_print.specs.Statements.{target_words, assigned, operands_words}
-use Rattle.qt_reparse.proofs.Streams.{nothing_behind}
-use Rattle.qt_reparse.proofs.Fixed.{semicolon-fixed}
+use Rattle.qt_print.specs.Statements.{target_words, assigned, operands_words, assignment_words, compound_words, call_words, subroutine_words}
+use Rattle.qt_print.proofs.Forms.{assignment_lines, compound_lines, gate_lines, subroutine_lines}
 use Rattle.qt_reparse.proofs.Operators.{printed_compound, compound_means}
 use Rattle.qt_reparse.proofs.Again.{Any}
 use Rattle.qt_reparse.proofs.Plain.{words_both}
@@ -21,7 +23,7 @@ use Rattle.qt_reparse.proofs.Literals.{label-again}
 use Rattle.qt_reparse.proofs.Scalars.{arguments-again, all_indexes-again}
 use Rattle.qt_reparse.proofs.Expressions.{expression-again}
 use Rattle.qt_reparse.proofs.Operands.{first_value-again, operands-again}
-use Rattle.qt_reparse.proofs.Sentences.{form_words, assignment_is, compound_is, gate_is, subroutine_is}
+use Rattle.qt_reparse.proofs.Sentences.{form_words, sentence_words}
 
 -- what was read behind a target, and behind a name, by the words of the whole, whose last is a `;`
 abbrev BehindTarget : (Target → StatementForm) → List Word → Type 0
@@ -30,19 +32,22 @@ BehindTarget tail l = (to : Target) → form_words (tail to) ≡ target_words to
 abbrev BehindName : (List ℕ → StatementForm) → List Word → Type 0
 BehindName tail l = (text : List ℕ) → form_words (tail text) ≡ name text ∷ (l ++ semicolon ∷ [])
 
+gate_is : (call : GateCall) → form_words (form_of.Gate call) ≡ call_words call ++ semicolon ∷ []
+gate_is call = sentence_words (call_words call) (gate_lines call)
+
 call_of_words : (xs : List Expr) (o : Option (List Operand)) (text : List ℕ) → form_words (call_of xs o text) ≡ name text ∷ ((parenthesized (list_words xs) ++ optional_words operands_words o) ++ semicolon ∷ [])
-call_of_words xs None text = subroutine_is text xs ∙ ap (λ t. name text ∷ (t ++ semicolon ∷ [])) (nothing_behind (parenthesized (list_words xs)))
+call_of_words xs None text = sentence_words (subroutine_words text xs) (subroutine_lines text xs) ∙ ap (λ t. name text ∷ (t ++ semicolon ∷ [])) (sym (append-nil (parenthesized (list_words xs))))
 call_of_words xs (Some qs) text = gate_is (record { modifiers = []; gate = g.Named text (Some xs); operands = qs })
 
 module _ (s : Setting) (outer : Option ℕ) where
   behind_target-again : Reader s outer behind_target behind_target BehindTarget (λ x y. x ≡ y) Any
   behind_target-again = form-either
       (form-as (first_value-again s outer) (λ x to. form_of.Assignment to x) BehindTarget (λ x y. x ≡ y)
-      (λ x l h to. assignment_is to x ∙ (append_assoc (target_words to) (assigned x) (semicolon ∷ []) ∙ ap (λ t. target_words to ++ (t ++ semicolon ∷ [])) h))
+      (λ x l h to. sentence_words (assignment_words to x) (assignment_lines to x) ∙ (append_assoc (target_words to) (assigned x) (semicolon ∷ []) ∙ ap (λ t. target_words to ++ (t ++ semicolon ∷ [])) h))
       (λ x y same. ap (λ z (to : Target). form_of.Assignment to z) same))
       (form-then (form-one compounds (λ t. printed_compound t.word) refl (λ t h. compound_means t.word h)) (expression-again s outer) (λ k x to. form_of.CompoundAssignment to (compound_op k.word) x) BehindTarget (λ x y. x ≡ y)
       (λ k x l m h i to.
-      compound_is to (compound_op k.word) x
+      sentence_words (compound_words to (compound_op k.word) x) (compound_lines to (compound_op k.word) x)
       ∙ (append_assoc (target_words to) (printed_compound k.word ∷ expr_words x) (semicolon ∷ [])
       ∙ ap (λ t. target_words to ++ (t ++ semicolon ∷ [])) (words_both (printed_compound k.word ∷ []) (expr_words x) l m h i)))
       (λ k k' x x' same alike. ap (λ t (to : Target). form_of.CompoundAssignment to (compound_op t) x) same ∙ ap (λ t (to : Target). form_of.CompoundAssignment to (compound_op k'.word) t) alike)
@@ -66,7 +71,7 @@ module _ (s : Setting) (outer : Option ℕ) where
       (λ x y same. ap {B = List ℕ → StatementForm} (λ qs (text : List ℕ). form_of.Gate (record { modifiers = []; gate = g.Named text None; operands = qs })) same))))
 
   ended-again : Reader s outer (ended behind_first_name) (ended behind_first_name) (λ tail l. (text : List ℕ) → form_words (tail text) ≡ name text ∷ l) (λ x y. x ≡ y) Any
-  ended-again = form-then behind_first_name-again (form-sign semicolon-fixed) (λ x y. x) (λ tail l. (text : List ℕ) → form_words (tail text) ≡ name text ∷ l) (λ x y. x ≡ y)
+  ended-again = form-then behind_first_name-again (form-sign semicolon w.Semicolon refl) (λ x y. x) (λ tail l. (text : List ℕ) → form_words (tail text) ≡ name text ∷ l) (λ x y. x ≡ y)
       (λ tail t l m h i text. h text ∙ ap (λ x. name text ∷ (l ++ x)) i) (λ x x' y y' same alike. same) (λ y l h m j has f. tt)
 
   pub by_name-again : Rereads s outer by_name form_words

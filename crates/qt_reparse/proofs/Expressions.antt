@@ -1,5 +1,6 @@
 -- Each form of expressions.
-use Rattle.std.proofs.Common.{◌≡◌, ℕ, List, [], ◌∷◌, ◌++◌, Option, Some, None, false, IsTrue, codes, refl, ◌∙◌, ap}
+use Rattle.std.proofs.Common.{◌≡◌, ℕ, List, [], ◌∷◌, ◌++◌, Option, Some, None, false, IsTrue, codes, refl, ◌∙◌, ap, sym}
+use Rattle.std.proofs.lemmas.List.{append-nil}
 use Rattle.qt_tree.specs.declared.expression.Expr.{Expr}
 use Rattle.qt_tree.specs.declared.expression.Expr.TheVariants as e
 use Rattle.qt_tree.specs.declared.expression.BinaryOp.TheVariants as b
@@ -10,18 +11,16 @@ use Rattle.qt_grammar.specs.Sorts.{expr}
 use Rattle.qt_grammar.specs.Form.{Form, member}
 use Rattle.qt_grammar.specs.Language.{behind_name, name_alone, name_expr, cast, size_of, parenthesized, primary, signed, negated, powered, power, factor, joined, level, tower, levels, expression, expressions, binary_op, unary_op}
 use Rattle.qt_grammar.proofs.LookaheadTests.{subset_sound}
-use Rattle.qt_print.specs.Words.{name, operator, optional as optional_words}
+use Rattle.qt_print.specs.Words.{name, operator, optional as optional_words, keyword}
 use Rattle.qt_print.specs.Expressions.{expr_words, list_words}
 use Rattle.qt_print.proofs.Equations.{parenthesized_words, name_words, call_words, cast_words, sizeof_words, unary_words, binary_words}
-use Rattle.qt_reparse.proofs.Streams.{nothing_behind}
-use Rattle.qt_reparse.proofs.Fixed.{comma-fixed, left_paren-fixed, right_paren-fixed, sizeof-fixed}
 use Rattle.qt_reparse.proofs.Operators.{printed_binary, printed_unary, binary_ops, unary_ops, binary_means, unary_means, power_means, AreOperators, levels_operators}
 use Rattle.qt_reparse.proofs.Setting.{Setting, Reader, Rereads}
 use Rattle.qt_reparse.proofs.Literals.{label-again, literals-again}
 use Rattle.qt_reparse.proofs.Scalars.{arguments-again, all_indexes-again, scalar-again}
 use Rattle.qt_reparse.proofs.Again.{Any}
 use Rattle.qt_reparse.proofs.Plain.{words_both}
-use Rattle.qt_reparse.proofs.Forms.{form-as, form-behind, form-chain, form-counted, form-either, form-maybe, form-operator, form-perhaps, form-plain, form-separated, form-then, form-tree, form-within}
+use Rattle.qt_reparse.proofs.Forms.{form-as, form-behind, form-chain, form-counted, form-either, form-maybe, form-operator, form-perhaps, form-plain, form-then, form-tree, form-parens, form-commas}
 use Rattle.qt_reparse.proofs.Named.{any-again, unary-again, in_sizeof-again}
 
 module _ (s : Setting) (outer : Option ℕ) where
@@ -41,13 +40,13 @@ module _ (s : Setting) (outer : Option ℕ) where
       (λ x x' y y' same alike. ap (λ t. name_alone t y) same ∙ ap (name_alone x') alike) (λ y l h m j has f. tt)
 
   cast-again : Rereads s outer cast expr_words
-  cast-again = form-plain (scalar-again s outer) (form-within left_paren-fixed right_paren-fixed (any-again s outer)) (λ to x. e.Cast to x) expr_words cast_words
+  cast-again = form-plain (scalar-again s outer) (form-parens (any-again s outer)) (λ to x. e.Cast to x) expr_words cast_words
 
   size_of-again : Rereads s outer size_of expr_words
-  size_of-again = form-tree (form-behind sizeof-fixed (form-within left_paren-fixed right_paren-fixed (in_sizeof-again s outer))) (λ c. e.SizeOf c.0 c.1) expr_words (λ c. sizeof_words c.0 c.1)
+  size_of-again = form-tree (form-behind (keyword (codes "sizeof")) w.SizeOf refl (form-parens (in_sizeof-again s outer))) (λ c. e.SizeOf c.0 c.1) expr_words (λ c. sizeof_words c.0 c.1)
 
   parenthesized-again : Rereads s outer parenthesized expr_words
-  parenthesized-again = form-tree (form-within left_paren-fixed right_paren-fixed (any-again s outer)) e.Parenthesized expr_words parenthesized_words
+  parenthesized-again = form-tree (form-parens (any-again s outer)) e.Parenthesized expr_words parenthesized_words
 
   primary-again : Rereads s outer primary expr_words
   primary-again = form-either (literals-again s outer) (form-either parenthesized-again (form-either name_expr-again (form-either cast-again size_of-again)))
@@ -59,7 +58,7 @@ module _ (s : Setting) (outer : Option ℕ) where
       (λ k k' x x' same alike. ap (λ t. e.Unary (unary_op t) x) same ∙ ap (signed k') alike) (λ y l h m j has f. tt)
 
   powered_words : (x : Expr) (o : Option Expr) → expr_words (powered x o) ≡ expr_words x ++ optional_words (λ y. operator (codes "**") ∷ expr_words y) o
-  powered_words x None = nothing_behind (expr_words x)
+  powered_words x None = sym (append-nil (expr_words x))
   powered_words x (Some y) = binary_words b.Pow x y
 
   power-again : Rereads s outer power expr_words
@@ -87,4 +86,4 @@ module _ (s : Setting) (outer : Option ℕ) where
   expression-again = form-counted (λ from. tower-again s from levels levels_operators) outer
 
   pub expressions-again : Rereads s outer expressions list_words
-  expressions-again = form-separated comma-fixed expression-again
+  expressions-again = form-commas expression-again

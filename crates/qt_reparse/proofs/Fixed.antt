@@ -1,19 +1,18 @@
--- The grammar's word for each fixed word that is printed.
-use Rattle.std.proofs.Common.{◌≡◌, ℕ, false, List, [], ◌∷◌, if◌then◌else◌, codes, refl}
+-- The grammar's word for each printed word: one of a fixed spelling, by a table; a name, a number and a text by its kind.
+use Rattle.std.proofs.Common.{◌≡◌, ℕ, inl, inr, Bool, true, false, not, ◌&&◌, ◌||◌, eqb, bytes_eq, List, [], ◌∷◌, if◌then◌else◌, codes, refl, sym, ◌∙◌, ap, subst}
+use Rattle.qt_lex.specs.declared.tokens.Kind.{Kind}
+use Rattle.qt_lex.specs.declared.tokens.Kind.TheVariants as kind
+use Rattle.qt_lex.proofs.Tables.{and_left, and_right, or_cases, not_false, eqb_same}
 use Rattle.qt_words.specs.declared.word.Word.{Word as GrammarWord}
 use Rattle.qt_words.specs.declared.word.Word.TheVariants as w
 use Rattle.qt_words.specs.Words.{code, word_of, reserved_words, symbols, constants}
 use Rattle.qt_words.specs.Literals.{is_bit_text}
+use Rattle.qt_words.proofs.Codes.{code_same}
 use Rattle.qt_grammar.specs.Form.{member}
 use Rattle.qt_print.specs.declared.role.Role.TheVariants as r
-use Rattle.qt_print.specs.Words.{Word, word, name, integer, keyword, operator, opening, comma, colon, semicolon}
-use Rattle.qt_print.specs.Statements.{body_start, body_end, else_word, plus_plus}
-use Rattle.qt_wording.specs.Spelling.{meaning}
-
--- the printed word is this word of the grammar, and not the end of a text
-pub record Fixed (m : Word) (k : GrammarWord) : Type 0 where
-  pub means : meaning m ≡ k
-  pub going_on : member 0 (code k ∷ []) ≡ false
+use Rattle.qt_print.specs.Words.{Word, word, name, integer}
+use Rattle.qt_wording.specs.Spelling.{kind_of, meaning}
+use Rattle.qt_wording.proofs.Tables.{same_is}
 
 pub name_means : (text : List ℕ) → meaning (name text) ≡ w.Name
 unfolding word_of
@@ -32,218 +31,61 @@ pub text_means : (text : List ℕ) → meaning (word r.Text text) ≡ (if is_bit
 unfolding word_of
 text_means text = refl
 
-pub comma-fixed : Fixed (comma) w.Comma
-unfolding word_of reserved_words symbols constants
-comma-fixed = record { means = refl; going_on = refl }
+-- the printed word is this word of the grammar, and not the end of a text
+pub record Fixed (m : Word) (k : GrammarWord) : Type 0 where
+  pub means : meaning m ≡ k
+  pub going_on : member 0 (code k ∷ []) ≡ false
 
-pub colon-fixed : Fixed (colon) w.Colon
-unfolding word_of reserved_words symbols constants
-colon-fixed = record { means = refl; going_on = refl }
+-- the words of a fixed spelling, but for operators, by the kind of their token
+abbrev pub rows : Kind → List (List ℕ × GrammarWord)
+rows kind.Constant = (codes "pi", w.Pi) ∷ (codes "tau", w.Tau) ∷ []
+rows kind.Symbol =
+    (codes "(", w.LeftParen) ∷ (codes ")", w.RightParen) ∷ (codes "[", w.LeftBracket) ∷ (codes "]", w.RightBracket) ∷
+    (codes "{", w.LeftBrace) ∷ (codes "}", w.RightBrace) ∷ (codes ";", w.Semicolon) ∷ (codes ",", w.Comma) ∷
+    (codes ":", w.Colon) ∷ (codes "@", w.At) ∷ (codes "->", w.Arrow) ∷ (codes "=", w.Assign) ∷ (codes "++", w.PlusPlus) ∷ []
+rows kind.Reserved =
+    (codes "if", w.If) ∷ (codes "else", w.Else) ∷ (codes "while", w.While) ∷ (codes "for", w.For) ∷ (codes "in", w.In) ∷
+    (codes "break", w.Break) ∷ (codes "continue", w.Continue) ∷ (codes "return", w.Return) ∷ (codes "end", w.EndWord) ∷
+    (codes "bool", w.Bool) ∷ (codes "bit", w.Bit) ∷ (codes "int", w.Int) ∷ (codes "uint", w.Uint) ∷ (codes "angle", w.Angle) ∷
+    (codes "true", w.True) ∷ (codes "false", w.False) ∷ (codes "sizeof", w.SizeOf) ∷ (codes "measure", w.Measure) ∷
+    (codes "reset", w.Reset) ∷ (codes "barrier", w.Barrier) ∷ (codes "gphase", w.GPhase) ∷ (codes "inv", w.Inv) ∷
+    (codes "pow", w.Pow) ∷ (codes "ctrl", w.Ctrl) ∷ (codes "negctrl", w.NegCtrl) ∷ (codes "creg", w.Creg) ∷
+    (codes "const", w.Const) ∷ (codes "let", w.Let) ∷ (codes "OPENQASM", w.OpenQasm) ∷ (codes "include", w.Include) ∷
+    (codes "input", w.Input) ∷ (codes "output", w.Output) ∷ (codes "array", w.Array) ∷ (codes "gate", w.Gate) ∷
+    (codes "def", w.Def) ∷ (codes "qubit", w.Qubit) ∷ (codes "qreg", w.Qreg) ∷ []
+rows _ = []
 
-pub semicolon-fixed : Fixed (semicolon) w.Semicolon
-unfolding word_of reserved_words symbols constants
-semicolon-fixed = record { means = refl; going_on = refl }
+-- each row holds: a token of this kind and text is its word, which isn't the end
+abbrev are_words : Kind → List (List ℕ × GrammarWord) → Bool
+are_words kind [] = true
+are_words kind ((text, k) ∷ rest) = (eqb (code (word_of kind text)) (code k) && not (member 0 (code k ∷ []))) && are_words kind rest
 
-pub left_paren-fixed : Fixed (opening (codes "(")) w.LeftParen
+rows_hold : (kind : Kind) → are_words kind (rows kind) ≡ true
 unfolding word_of reserved_words symbols constants
-left_paren-fixed = record { means = refl; going_on = refl }
+rows_hold kind.Constant = refl
+rows_hold kind.Symbol = refl
+rows_hold kind.Reserved = refl
+rows_hold _ = refl
 
-pub left_bracket-fixed : Fixed (opening (codes "[")) w.LeftBracket
-unfolding word_of reserved_words symbols constants
-left_bracket-fixed = record { means = refl; going_on = refl }
+abbrev pub has_row : List (List ℕ × GrammarWord) → List ℕ → GrammarWord → Bool
+has_row [] text k = false
+has_row ((first, l) ∷ rest) text k = (bytes_eq text first && eqb (code k) (code l)) || has_row rest text k
 
-pub left_brace-fixed : Fixed (opening (codes "{")) w.LeftBrace
-unfolding word_of reserved_words symbols constants
-left_brace-fixed = record { means = refl; going_on = refl }
+row_holds : (kind : Kind) (all : List (List ℕ × GrammarWord)) (text : List ℕ) (k : GrammarWord) → are_words kind all ≡ true → has_row all text k ≡ true → (word_of kind text ≡ k) × (member 0 (code k ∷ []) ≡ false)
+row_holds kind [] text k hold h = absurd (cc h)
+row_holds kind ((first, l) ∷ rest) text k hold h = elim (or_cases (bytes_eq text first && eqb (code k) (code l)) (has_row rest text k) h) [
+  | inl here ↦ let row = and_left (eqb (code (word_of kind first)) (code l) && not (member 0 (code l ∷ []))) (are_words kind rest) hold in
+      let is : k ≡ l = code_same k l (eqb_same (code k) (code l) (and_right (bytes_eq text first) (eqb (code k) (code l)) here)) in
+      let means : word_of kind first ≡ l = code_same (word_of kind first) l (eqb_same _ (code l) (and_left (eqb (code (word_of kind first)) (code l)) (not (member 0 (code l ∷ []))) row)) in (
+        ap (word_of kind) (same_is text first (and_left (bytes_eq text first) (eqb (code k) (code l)) here)) ∙ (means ∙ sym is),
+        subst (λ t. member 0 (code t ∷ []) ≡ false) (sym is) (not_false (member 0 (code l ∷ [])) (and_right (eqb (code (word_of kind first)) (code l)) (not (member 0 (code l ∷ []))) row)),
+      )
+  | inr there ↦ row_holds kind rest text k (and_right (eqb (code (word_of kind first)) (code l) && not (member 0 (code l ∷ []))) (are_words kind rest) hold) there
+]
 
-pub right_paren-fixed : Fixed (word r.ClosingParenthesis (codes ")")) w.RightParen
-unfolding word_of reserved_words symbols constants
-right_paren-fixed = record { means = refl; going_on = refl }
+-- a printed word of the table is this word of the grammar
+abbrev pub IsRow : Word → GrammarWord → Type 0
+IsRow m k = has_row (rows (kind_of m.role)) m.text k ≡ true
 
-pub right_bracket-fixed : Fixed (word r.ClosingBracket (codes "]")) w.RightBracket
-unfolding word_of reserved_words symbols constants
-right_bracket-fixed = record { means = refl; going_on = refl }
-
-pub right_brace-fixed : Fixed (word r.ClosingBrace (codes "}")) w.RightBrace
-unfolding word_of reserved_words symbols constants
-right_brace-fixed = record { means = refl; going_on = refl }
-
-pub body_start-fixed : Fixed (body_start) w.LeftBrace
-unfolding word_of reserved_words symbols constants
-body_start-fixed = record { means = refl; going_on = refl }
-
-pub body_end-fixed : Fixed (body_end) w.RightBrace
-unfolding word_of reserved_words symbols constants
-body_end-fixed = record { means = refl; going_on = refl }
-
-pub assign-fixed : Fixed (operator (codes "=")) w.Assign
-unfolding word_of reserved_words symbols constants
-assign-fixed = record { means = refl; going_on = refl }
-
-pub at-fixed : Fixed (operator (codes "@")) w.At
-unfolding word_of reserved_words symbols constants
-at-fixed = record { means = refl; going_on = refl }
-
-pub arrow-fixed : Fixed (operator (codes "->")) w.Arrow
-unfolding word_of reserved_words symbols constants
-arrow-fixed = record { means = refl; going_on = refl }
-
-pub plus_plus-fixed : Fixed (plus_plus) w.PlusPlus
-unfolding word_of reserved_words symbols constants
-plus_plus-fixed = record { means = refl; going_on = refl }
-
-pub if-fixed : Fixed (word r.Head (codes "if")) w.If
-unfolding word_of reserved_words symbols constants
-if-fixed = record { means = refl; going_on = refl }
-
-pub while-fixed : Fixed (word r.Head (codes "while")) w.While
-unfolding word_of reserved_words symbols constants
-while-fixed = record { means = refl; going_on = refl }
-
-pub for-fixed : Fixed (word r.Head (codes "for")) w.For
-unfolding word_of reserved_words symbols constants
-for-fixed = record { means = refl; going_on = refl }
-
-pub in-fixed : Fixed (word r.In (codes "in")) w.In
-unfolding word_of reserved_words symbols constants
-in-fixed = record { means = refl; going_on = refl }
-
-pub else-fixed : Fixed (else_word) w.Else
-unfolding word_of reserved_words symbols constants
-else-fixed = record { means = refl; going_on = refl }
-
-pub pi-fixed : Fixed (word r.Constant (codes "pi")) w.Pi
-unfolding word_of reserved_words symbols constants
-pi-fixed = record { means = refl; going_on = refl }
-
-pub tau-fixed : Fixed (word r.Constant (codes "tau")) w.Tau
-unfolding word_of reserved_words symbols constants
-tau-fixed = record { means = refl; going_on = refl }
-
-pub bool-fixed : Fixed (keyword (codes "bool")) w.Bool
-unfolding word_of reserved_words symbols constants
-bool-fixed = record { means = refl; going_on = refl }
-
-pub bit-fixed : Fixed (keyword (codes "bit")) w.Bit
-unfolding word_of reserved_words symbols constants
-bit-fixed = record { means = refl; going_on = refl }
-
-pub int-fixed : Fixed (keyword (codes "int")) w.Int
-unfolding word_of reserved_words symbols constants
-int-fixed = record { means = refl; going_on = refl }
-
-pub uint-fixed : Fixed (keyword (codes "uint")) w.Uint
-unfolding word_of reserved_words symbols constants
-uint-fixed = record { means = refl; going_on = refl }
-
-pub angle-fixed : Fixed (keyword (codes "angle")) w.Angle
-unfolding word_of reserved_words symbols constants
-angle-fixed = record { means = refl; going_on = refl }
-
-pub true-fixed : Fixed (keyword (codes "true")) w.True
-unfolding word_of reserved_words symbols constants
-true-fixed = record { means = refl; going_on = refl }
-
-pub false-fixed : Fixed (keyword (codes "false")) w.False
-unfolding word_of reserved_words symbols constants
-false-fixed = record { means = refl; going_on = refl }
-
-pub sizeof-fixed : Fixed (keyword (codes "sizeof")) w.SizeOf
-unfolding word_of reserved_words symbols constants
-sizeof-fixed = record { means = refl; going_on = refl }
-
-pub measure-fixed : Fixed (keyword (codes "measure")) w.Measure
-unfolding word_of reserved_words symbols constants
-measure-fixed = record { means = refl; going_on = refl }
-
-pub inv-fixed : Fixed (keyword (codes "inv")) w.Inv
-unfolding word_of reserved_words symbols constants
-inv-fixed = record { means = refl; going_on = refl }
-
-pub pow-fixed : Fixed (keyword (codes "pow")) w.Pow
-unfolding word_of reserved_words symbols constants
-pow-fixed = record { means = refl; going_on = refl }
-
-pub ctrl-fixed : Fixed (keyword (codes "ctrl")) w.Ctrl
-unfolding word_of reserved_words symbols constants
-ctrl-fixed = record { means = refl; going_on = refl }
-
-pub negctrl-fixed : Fixed (keyword (codes "negctrl")) w.NegCtrl
-unfolding word_of reserved_words symbols constants
-negctrl-fixed = record { means = refl; going_on = refl }
-
-pub gphase-fixed : Fixed (keyword (codes "gphase")) w.GPhase
-unfolding word_of reserved_words symbols constants
-gphase-fixed = record { means = refl; going_on = refl }
-
-pub creg-fixed : Fixed (keyword (codes "creg")) w.Creg
-unfolding word_of reserved_words symbols constants
-creg-fixed = record { means = refl; going_on = refl }
-
-pub const-fixed : Fixed (keyword (codes "const")) w.Const
-unfolding word_of reserved_words symbols constants
-const-fixed = record { means = refl; going_on = refl }
-
-pub let-fixed : Fixed (keyword (codes "let")) w.Let
-unfolding word_of reserved_words symbols constants
-let-fixed = record { means = refl; going_on = refl }
-
-pub reset-fixed : Fixed (keyword (codes "reset")) w.Reset
-unfolding word_of reserved_words symbols constants
-reset-fixed = record { means = refl; going_on = refl }
-
-pub barrier-fixed : Fixed (keyword (codes "barrier")) w.Barrier
-unfolding word_of reserved_words symbols constants
-barrier-fixed = record { means = refl; going_on = refl }
-
-pub break-fixed : Fixed (keyword (codes "break")) w.Break
-unfolding word_of reserved_words symbols constants
-break-fixed = record { means = refl; going_on = refl }
-
-pub continue-fixed : Fixed (keyword (codes "continue")) w.Continue
-unfolding word_of reserved_words symbols constants
-continue-fixed = record { means = refl; going_on = refl }
-
-pub return-fixed : Fixed (keyword (codes "return")) w.Return
-unfolding word_of reserved_words symbols constants
-return-fixed = record { means = refl; going_on = refl }
-
-pub end-fixed : Fixed (keyword (codes "end")) w.EndWord
-unfolding word_of reserved_words symbols constants
-end-fixed = record { means = refl; going_on = refl }
-
-pub openqasm-fixed : Fixed (keyword (codes "OPENQASM")) w.OpenQasm
-unfolding word_of reserved_words symbols constants
-openqasm-fixed = record { means = refl; going_on = refl }
-
-pub input-fixed : Fixed (keyword (codes "input")) w.Input
-unfolding word_of reserved_words symbols constants
-input-fixed = record { means = refl; going_on = refl }
-
-pub output-fixed : Fixed (keyword (codes "output")) w.Output
-unfolding word_of reserved_words symbols constants
-output-fixed = record { means = refl; going_on = refl }
-
-pub array-fixed : Fixed (keyword (codes "array")) w.Array
-unfolding word_of reserved_words symbols constants
-array-fixed = record { means = refl; going_on = refl }
-
-pub gate-fixed : Fixed (keyword (codes "gate")) w.Gate
-unfolding word_of reserved_words symbols constants
-gate-fixed = record { means = refl; going_on = refl }
-
-pub def-fixed : Fixed (keyword (codes "def")) w.Def
-unfolding word_of reserved_words symbols constants
-def-fixed = record { means = refl; going_on = refl }
-
-pub include-fixed : Fixed (keyword (codes "include")) w.Include
-unfolding word_of reserved_words symbols constants
-include-fixed = record { means = refl; going_on = refl }
-
-pub qubit-fixed : Fixed (keyword (codes "qubit")) w.Qubit
-unfolding word_of reserved_words symbols constants
-qubit-fixed = record { means = refl; going_on = refl }
-
-pub qreg-fixed : Fixed (keyword (codes "qreg")) w.Qreg
-unfolding word_of reserved_words symbols constants
-qreg-fixed = record { means = refl; going_on = refl }
+pub fixed : (m : Word) (k : GrammarWord) → IsRow m k → Fixed m k
+fixed m k h = let found = row_holds (kind_of m.role) (rows (kind_of m.role)) m.text k (rows_hold (kind_of m.role)) h in record { means = found.0; going_on = found.1 }

@@ -1,47 +1,66 @@
 -- One lemma for each way to build a form. They tell of forms and not of what forms read: written out, what an expression reads is large.
-use Rattle.std.proofs.Common.{◌≡◌, ℕ, inl, false, IsTrue, List, [], ◌∷◌, ◌++◌, map, Option, Some, None, sym, ◌∙◌}
+use Rattle.std.proofs.Common.{◌≡◌, ℕ, inl, false, IsTrue, List, [], ◌∷◌, ◌++◌, map, Option, Some, None, codes, refl, sym, ◌∙◌}
 use Rattle.qt_words.specs.declared.word.Word.{Word as GrammarWord}
+use Rattle.qt_words.specs.declared.word.Word.TheVariants as w
 use Rattle.qt_words.specs.Words.{code}
 use Rattle.qt_words.specs.Terminals.{Terminal}
 use Rattle.qt_grammar.specs.Sorts.{Sort, Value, token, nothing, several}
 use Rattle.qt_grammar.specs.Form.{Form, one, operator, counted, here, empty, as_tree, then_, maybe, nearest, chain, member, word_at}
-use Rattle.qt_grammar.specs.Language.{◌⊗◌, ◌⊳◌, ◌⊲◌, ◌⊕◌, sign, separated, some, or_none}
-use Rattle.qt_print.specs.Words.{Word, separated as separated_words, joined, optional as optional_words}
+use Rattle.qt_grammar.specs.Language.{◌⊗◌, ◌⊳◌, ◌⊲◌, ◌⊕◌, sign, parens, brackets, braces, ended, separated, commas, some, or_none}
+use Rattle.qt_print.specs.declared.role.Role.TheVariants as r
+use Rattle.qt_print.specs.Words.{Word, word, opening, comma, semicolon, parenthesized, bracketed, braced, separated as separated_words, joined, optional as optional_words}
 use Rattle.qt_wording.specs.Spelling.{meaning}
 use Rattle.qt_wording.specs.Written.{Written}
-use Rattle.qt_reparse.proofs.Fixed.{Fixed}
+use Rattle.qt_wording.proofs.Lists.{Filled}
+use Rattle.qt_reparse.proofs.Fixed.{IsRow, fixed}
 use Rattle.qt_reparse.proofs.Again.{Any, again-word, again-operator, again-empty, again-here, again-weaken, again-told, again-into, again-both, again-either, again-tree, again-then, again-maybe, again-option, again-chain, again-counted}
-use Rattle.qt_reparse.proofs.Plain.{Filled, again-sign, plain-word, plain-behind, plain-before, plain-within, plain-maybe, again-separated, plain-separated, plain-some, plain-or_none, plain-tree, plain-then, plain-pair, plain-lead}
+use Rattle.qt_reparse.proofs.Plain.{again-sign, plain-word, plain-behind, plain-before, plain-within, plain-maybe, again-separated, plain-separated, plain-some, plain-or_none, plain-tree, plain-then, plain-pair, plain-lead}
 use Rattle.qt_reparse.proofs.Setting.{Setting, Reader, Rereads}
 
 module _ {s : Setting} {outer : Option ℕ} where
   -- ---- forms without places
 
-  pub form-word : {m : Word} {k : GrammarWord} {t : Sort} → Fixed m k → (x : Value t) (words : Value t → List Word) → words x ≡ m ∷ [] → Rereads s outer (as_tree {s = token} {t = t} (λ c. x) (sign k)) words
-  form-word f x words e = record { reads = plain-word f x words e }
+  pub form-word : {t : Sort} (m : Word) (k : GrammarWord) → IsRow m k → (x : Value t) (words : Value t → List Word) → words x ≡ m ∷ [] → Rereads s outer (as_tree {s = token} {t = t} (λ c. x) (sign k)) words
+  form-word m k row x words e = record { reads = plain-word (fixed m k row) x words e }
 
   -- a word before or behind, two words round a form; what is the same but for places stays so
   module _ {t : Sort} {f : Form t} {words : Value t → List Word} {S : Value t → Value t → Type 0} where
-    pub form-behind : {N : ℕ → Type 0} {m : Word} {k : GrammarWord} → Fixed m k → Reader s outer f f (λ v l. words v ≡ l) S N → Reader s outer (sign k ⊳ f) (sign k ⊳ f) (λ v l. m ∷ words v ≡ l) S N
-    form-behind fixed a = record { reads = plain-behind fixed a.reads }
+    pub form-behind : {N : ℕ → Type 0} (m : Word) (k : GrammarWord) → IsRow m k → Reader s outer f f (λ v l. words v ≡ l) S N → Reader s outer (sign k ⊳ f) (sign k ⊳ f) (λ v l. m ∷ words v ≡ l) S N
+    form-behind m k row a = record { reads = plain-behind (fixed m k row) a.reads }
 
-    pub form-before : {m : Word} {k : GrammarWord} → Fixed m k → Reader s outer f f (λ v l. words v ≡ l) S Any → Reader s outer (f ⊲ sign k) (f ⊲ sign k) (λ v l. words v ++ m ∷ [] ≡ l) S Any
-    form-before fixed a = record { reads = plain-before fixed a.reads }
+    pub form-before : (m : Word) (k : GrammarWord) → IsRow m k → Reader s outer f f (λ v l. words v ≡ l) S Any → Reader s outer (f ⊲ sign k) (f ⊲ sign k) (λ v l. words v ++ m ∷ [] ≡ l) S Any
+    form-before m k row a = record { reads = plain-before (fixed m k row) a.reads }
 
-    pub form-within : {m n : Word} {k o : GrammarWord} → Fixed m k → Fixed n o → Reader s outer f f (λ v l. words v ≡ l) S Any
+    pub form-within : (m n : Word) (k o : GrammarWord) → IsRow m k → IsRow n o → Reader s outer f f (λ v l. words v ≡ l) S Any
         → Reader s outer (sign k ⊳ f ⊲ sign o) (sign k ⊳ f ⊲ sign o) (λ v l. m ∷ (words v ++ n ∷ []) ≡ l) S Any
-    form-within opening closing a = record { reads = plain-within opening closing a.reads }
+    form-within m n k o row row' a = record { reads = plain-within (fixed m k row) (fixed n o row') a.reads }
+
+  module _ {t : Sort} {f : Form t} {words : Value t → List Word} {S : Value t → Value t → Type 0} where
+    pub form-parens : Reader s outer f f (λ v l. words v ≡ l) S Any → Reader s outer (parens f) (parens f) (λ v l. parenthesized (words v) ≡ l) S Any
+    form-parens a = form-within (opening (codes "(")) (word r.ClosingParenthesis (codes ")")) w.LeftParen w.RightParen refl refl a
+
+    pub form-brackets : Reader s outer f f (λ v l. words v ≡ l) S Any → Reader s outer (brackets f) (brackets f) (λ v l. bracketed (words v) ≡ l) S Any
+    form-brackets a = form-within (opening (codes "[")) (word r.ClosingBracket (codes "]")) w.LeftBracket w.RightBracket refl refl a
+
+    pub form-braces : Reader s outer f f (λ v l. words v ≡ l) S Any → Reader s outer (braces f) (braces f) (λ v l. braced (words v) ≡ l) S Any
+    form-braces a = form-within (opening (codes "{")) (word r.ClosingBrace (codes "}")) w.LeftBrace w.RightBrace refl refl a
+
+    pub form-ended : Reader s outer f f (λ v l. words v ≡ l) S Any → Reader s outer (ended f) (ended f) (λ v l. words v ++ semicolon ∷ [] ≡ l) S Any
+    form-ended a = form-before semicolon w.Semicolon refl a
 
   module _ {t : Sort} {f : Form t} {words : Value t → List Word} where
     pub form-maybe : Rereads s outer f words → Rereads s outer (maybe f) (optional_words words)
     form-maybe a = record { reads = plain-maybe a.reads }
 
-    pub form-filled : {m : Word} {k : GrammarWord} → Fixed m k → Rereads s outer f words
+    pub form-filled : (m : Word) (k : GrammarWord) → IsRow m k → Rereads s outer f words
         → Reader s outer (separated {s = t} k f) (separated {s = t} k f) (λ xs l. Filled xs × (separated_words m (map words xs) ≡ l)) (λ x y. x ≡ y) Any
-    form-filled fixed a = record { reads = again-separated fixed a.reads }
+    form-filled m k row a = record { reads = again-separated (fixed m k row) a.reads }
 
-    pub form-separated : {m : Word} {k : GrammarWord} → Fixed m k → Rereads s outer f words → Rereads s outer (separated {s = t} k f) (λ xs. separated_words m (map words xs))
-    form-separated fixed a = record { reads = plain-separated fixed a.reads }
+    pub form-separated : (m : Word) (k : GrammarWord) → IsRow m k → Rereads s outer f words → Rereads s outer (separated {s = t} k f) (λ xs. separated_words m (map words xs))
+    form-separated m k row a = record { reads = plain-separated (fixed m k row) a.reads }
+
+    pub form-commas : Rereads s outer f words → Rereads s outer (commas {s = t} f) (λ xs. separated_words comma (map words xs))
+    form-commas a = form-separated comma w.Comma refl a
 
     pub form-some : Rereads s outer f words → Rereads s outer (some {s = t} f) (λ xs. joined (map words xs))
     form-some a = record { reads = plain-some a.reads }
@@ -76,8 +95,8 @@ module _ {s : Setting} {outer : Option ℕ} where
       → Reader s outer (one ws) (one ws) (λ t l. m t ∷ [] ≡ l) (λ t t'. t.word ≡ t'.word) Any
   form-one ws m free fits = record { reads = again-told (again-word s.streams ws m free fits) (λ t l. m t ∷ [] ≡ l) (λ t t'. t.word ≡ t'.word) (λ t l h. h) (λ t t' kept. sym (kept.2 ∙ fits t kept.0)) }
 
-  pub form-sign : {m : Word} {k : GrammarWord} → Fixed m k → Reader s outer (sign k) (sign k) (λ t l. m ∷ [] ≡ l) (λ x y. Unit {0}) Any
-  form-sign fixed = record { reads = again-sign fixed }
+  pub form-sign : (m : Word) (k : GrammarWord) → IsRow m k → Reader s outer (sign k) (sign k) (λ t l. m ∷ [] ≡ l) (λ x y. Unit {0}) Any
+  form-sign m k row = record { reads = again-sign (fixed m k row) }
 
   pub form-here : Reader s outer here here (λ y l. [] ≡ l) (λ x y. Unit {0}) Any
   form-here = record { reads = again-here s.streams }

@@ -1,19 +1,19 @@
 -- Ranges, indexes, and what stands in the parentheses of `sizeof`.
-use Rattle.std.proofs.Common.{◌≡◌, ℕ, List, [], ◌∷◌, ◌++◌, Option, Some, None, refl, ◌∙◌, ap, append_assoc}
+use Rattle.std.proofs.Common.{◌≡◌, ℕ, List, [], ◌∷◌, ◌++◌, Option, Some, None, refl, ◌∙◌, ap, append_assoc, sym}
+use Rattle.std.proofs.lemmas.List.{append-nil}
 use Rattle.qt_tree.specs.declared.expression.Expr.{Expr}
 use Rattle.qt_tree.specs.declared.expression.Index.TheVariants as ix
 use Rattle.qt_grammar.specs.Sorts.{in_sizeof}
 use Rattle.qt_words.specs.declared.word.Word.TheVariants as w
 use Rattle.qt_grammar.specs.Form.{maybe}
 use Rattle.qt_grammar.specs.Language.{◌⊗◌, ◌⊳◌, sign, expression, range_of, behind_start, range_form, set, place_or_range, index_form, rule}
-use Rattle.qt_print.specs.Words.{Word, colon, braced, optional as optional_words}
+use Rattle.qt_print.specs.Words.{Word, colon, comma, braced, optional as optional_words}
 use Rattle.qt_print.specs.Expressions.{expr_words, index_words, range_words, list_words, end_words}
 use Rattle.qt_print.proofs.Equations.{at_words, index-range_words, set_words, range-parts_words}
-use Rattle.qt_reparse.proofs.Streams.{nothing_behind}
-use Rattle.qt_reparse.proofs.Fixed.{comma-fixed, colon-fixed, left_brace-fixed, right_brace-fixed}
+use Rattle.qt_wording.proofs.Words.{in_sizeof_words}
 use Rattle.qt_reparse.proofs.Again.{Any}
-use Rattle.qt_reparse.proofs.Setting.{Setting, Reader, Rereads, in_sizeof_words}
-use Rattle.qt_reparse.proofs.Forms.{form-behind, form-within, form-maybe, form-tree, form-pair, form-as, form-perhaps, form-either, form-then}
+use Rattle.qt_reparse.proofs.Setting.{Setting, Reader, Rereads}
+use Rattle.qt_reparse.proofs.Forms.{form-behind, form-maybe, form-tree, form-pair, form-as, form-perhaps, form-either, form-then, form-braces}
 use Rattle.qt_reparse.proofs.Named.{set-again}
 use Rattle.qt_reparse.proofs.Literals.{label-again}
 use Rattle.qt_reparse.proofs.Expressions.{expression-again}
@@ -27,12 +27,12 @@ rest_words o = colon ∷ optional_words (λ v. expr_words v.0 ++ last_words v.1)
 
 range_of_words : (o : Option (Expr × Option (Option Expr))) (start : Option Expr) → range_words (range_of o start) ≡ end_words start ++ rest_words o
 range_of_words None start = range-parts_words (range_of None start)
-range_of_words (Some (x, None)) start = range-parts_words (range_of (Some (x, None)) start) ∙ ap (λ t. end_words start ++ colon ∷ t) (nothing_behind (expr_words x))
+range_of_words (Some (x, None)) start = range-parts_words (range_of (Some (x, None)) start) ∙ ap (λ t. end_words start ++ colon ∷ t) (sym (append-nil (expr_words x)))
 range_of_words (Some (x, Some last)) start = range-parts_words (range_of (Some (x, Some last)) start) ∙ ap (λ t. end_words start ++ colon ∷ t) (append_assoc (expr_words x) (colon ∷ []) (end_words last))
 
 module _ (s : Setting) (outer : Option ℕ) where
   rest-again : Rereads s outer (sign w.Colon ⊳ maybe (expression ⊗ maybe (sign w.Colon ⊳ maybe expression))) rest_words
-  rest-again = form-behind colon-fixed (form-maybe (form-pair (expression-again s outer) (form-maybe (form-behind colon-fixed (form-maybe (expression-again s outer))))))
+  rest-again = form-behind colon w.Colon refl (form-maybe (form-pair (expression-again s outer) (form-maybe (form-behind colon w.Colon refl (form-maybe (expression-again s outer))))))
 
   -- behind the start of a range, by the words of the whole
   behind_start-again : Reader s outer behind_start behind_start (λ tail l. (start : Option Expr) → range_words (tail start) ≡ end_words start ++ l) (λ x y. x ≡ y) Any
@@ -46,17 +46,17 @@ module _ (s : Setting) (outer : Option ℕ) where
       (λ x x' y y' same alike. ap (λ t. y (Some t)) same ∙ ap (λ tail. tail (Some x')) alike) (λ y l h m j has f. tt))
 
   pub in_set-again : Rereads s outer set (λ xs. braced (list_words xs))
-  in_set-again = form-within left_brace-fixed right_brace-fixed (set-again s outer)
+  in_set-again = form-braces (set-again s outer)
 
   pub index_form-again : Rereads s outer index_form index_words
   index_form-again = form-either (form-tree in_set-again ix.Set index_words set_words)
       (form-either
       (form-as behind_start-again (λ tail. ix.Range (tail None)) (λ v l. index_words v ≡ l) (λ x y. x ≡ y) (λ tail l h. index-range_words (tail None) ∙ h None) (λ x y same. ap (λ tail. ix.Range (tail None)) same))
       (form-then (expression-again s outer)
-      (form-perhaps behind_start-again (λ o l. (x : Expr) → index_words (place_or_range x o) ≡ expr_words x ++ l) (λ x y. x ≡ y) (λ x. at_words x ∙ nothing_behind (expr_words x))
+      (form-perhaps behind_start-again (λ o l. (x : Expr) → index_words (place_or_range x o) ≡ expr_words x ++ l) (λ x y. x ≡ y) (λ x. at_words x ∙ sym (append-nil (expr_words x)))
       (λ tail l h x. index-range_words (tail (Some x)) ∙ h (Some x)) refl (λ x y same. ap Some same))
       place_or_range (λ v l. index_words v ≡ l) (λ x y. x ≡ y) (λ x o l m h g. g x ∙ ap (λ t. t ++ m) h)
       (λ x x' y y' same alike. ap (λ t. place_or_range t y) same ∙ ap (place_or_range x') alike) (λ y l h m j has f. tt)))
 
   pub in_sizeof_rule-again : Rereads s outer (rule in_sizeof) in_sizeof_words
-  in_sizeof_rule-again = form-pair (label-again s outer) (form-maybe (form-behind comma-fixed (expression-again s outer)))
+  in_sizeof_rule-again = form-pair (label-again s outer) (form-maybe (form-behind comma w.Comma refl (expression-again s outer)))

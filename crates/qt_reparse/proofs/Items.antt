@@ -13,7 +13,7 @@ use Rattle.qt_words.specs.Literals.{is_bit_text, inside_quotes}
 use Rattle.qt_grammar.specs.Sorts.{Sort, Value, item_tail, in_array, an_entry, parameters}
 use Rattle.qt_grammar.specs.Form.{Form, one, as_tree, member}
 use Rattle.qt_grammar.specs.Language.{ended, include, interface, qubits, qubit_item, register_item, list, array_item, rule}
-use Rattle.qt_print.specs.Words.{Word, keyword, comma, quotation, each_behind, separated}
+use Rattle.qt_print.specs.Words.{Word, keyword, comma, quotation, each_behind, separated, operator}
 use Rattle.qt_print.specs.Literals.{quoted}
 use Rattle.qt_print.specs.Statements.{sentence}
 use Rattle.qt_print.specs.Expressions.{expr_words}
@@ -22,12 +22,14 @@ use Rattle.qt_print.proofs.Items.{item-list_words, item-value_words}
 use Rattle.qt_wording.specs.Places.{origin, bare_item}
 use Rattle.qt_wording.specs.Spelling.{meaning}
 use Rattle.qt_wording.specs.Written.{words_of}
+use Rattle.qt_wording.proofs.Lists.{Filled}
+use Rattle.qt_wording.proofs.Words.{entries_words, all_parameters_words, in_array_words}
 use Rattle.qt_reparse.proofs.Streams.{each_of}
-use Rattle.qt_reparse.proofs.Fixed.{text_means, comma-fixed, semicolon-fixed, left_bracket-fixed, right_bracket-fixed, left_brace-fixed, right_brace-fixed, assign-fixed, include-fixed, input-fixed, output-fixed, qubit-fixed, qreg-fixed, array-fixed}
+use Rattle.qt_reparse.proofs.Fixed.{text_means}
 use Rattle.qt_reparse.proofs.Again.{Any, again-one, again-told}
-use Rattle.qt_reparse.proofs.Plain.{Filled, words_both}
-use Rattle.qt_reparse.proofs.Setting.{Setting, Reader, Rereads, entries_words, all_parameters_words, in_array_words}
-use Rattle.qt_reparse.proofs.Forms.{form-behind, form-before, form-within, form-maybe, form-filled, form-separated, form-tree, form-plain, form-pair, form-either, form-sign, form-as, form-then}
+use Rattle.qt_reparse.proofs.Plain.{words_both}
+use Rattle.qt_reparse.proofs.Setting.{Setting, Reader, Rereads}
+use Rattle.qt_reparse.proofs.Forms.{form-behind, form-maybe, form-filled, form-tree, form-plain, form-pair, form-either, form-sign, form-as, form-then, form-brackets, form-braces, form-ended, form-commas}
 use Rattle.qt_reparse.proofs.Named.{entry-again, in_array-again}
 use Rattle.qt_reparse.proofs.Literals.{label-again}
 use Rattle.qt_reparse.proofs.Scalars.{size-again, scalar-again}
@@ -66,7 +68,7 @@ module _ (s : Setting) (outer : Option ℕ) where
   -- an item of one line, which has one place
   item-line : {t : Sort} {f : Form t} {words : Value t → List Word} → Rereads s outer f words → (k : Value t → Place → Item) → ((x : Value t) (at : Place) → item_lines (k x at) ≡ sentence (words x))
       → ((x : Value t) (at at' : Place) → bare_item (k x at) ≡ bare_item (k x at')) → Reader s outer (as_tree {s = t} {t = item_tail} k (ended f)) (as_tree {s = t} {t = item_tail} k (ended f)) ItemTail SameItemTail Any
-  item-line {words = words} a k e b = form-as (form-before semicolon-fixed a) k ItemTail SameItemTail (λ x l h at. ap words_of (e x at) ∙ (words_of_sentence (words x) ∙ h))
+  item-line {words = words} a k e b = form-as (form-ended a) k ItemTail SameItemTail (λ x l h at. ap words_of (e x at) ∙ (words_of_sentence (words x) ∙ h))
       (λ x y same at at'. b x at at' ∙ ap (λ t. bare_item (k t at')) same)
 
   quoted-again : Reader s outer (one quoted_words) (one quoted_words) (λ t l. quotation (inside_quotes t.spelling) ∷ [] ≡ l) (λ t t'. inside_quotes t.spelling ≡ inside_quotes t'.spelling) Any
@@ -78,39 +80,39 @@ module _ (s : Setting) (outer : Option ℕ) where
   }
 
   pub include-again : Reader s outer include include ItemTail SameItemTail Any
-  include-again = form-as (form-before semicolon-fixed (form-behind include-fixed quoted-again)) (λ k at. item_of.Include at (inside_quotes k.spelling)) ItemTail SameItemTail
+  include-again = form-as (form-ended (form-behind (keyword (codes "include")) w.Include refl quoted-again)) (λ k at. item_of.Include at (inside_quotes k.spelling)) ItemTail SameItemTail
       (λ t l h at. words_of_sentence (keyword (codes "include") ∷ quotation (inside_quotes t.spelling) ∷ []) ∙ h) (λ t t' same at at'. ap (item_of.Include origin) same)
 
   pub input-again : Reader s outer (interface w.Input item_of.Input) (interface w.Input item_of.Input) ItemTail SameItemTail Any
-  input-again = item-line (form-behind input-fixed (form-pair (scalar-again s outer) (label-again s outer))) (λ c at. item_of.Input at c.0 c.1) (λ c at. refl) (λ c at at'. refl)
+  input-again = item-line (form-behind (keyword (codes "input")) w.Input refl (form-pair (scalar-again s outer) (label-again s outer))) (λ c at. item_of.Input at c.0 c.1) (λ c at. refl) (λ c at at'. refl)
 
   pub output-again : Reader s outer (interface w.Output item_of.Output) (interface w.Output item_of.Output) ItemTail SameItemTail Any
-  output-again = item-line (form-behind output-fixed (form-pair (scalar-again s outer) (label-again s outer))) (λ c at. item_of.Output at c.0 c.1) (λ c at. refl) (λ c at at'. refl)
+  output-again = item-line (form-behind (keyword (codes "output")) w.Output refl (form-pair (scalar-again s outer) (label-again s outer))) (λ c at. item_of.Output at c.0 c.1) (λ c at. refl) (λ c at at'. refl)
 
   qubits-again : Rereads s outer qubits (λ c. qubit_words c.0 c.1)
-  qubits-again = form-behind qubit-fixed (form-pair (form-maybe (size-again s outer)) (label-again s outer))
+  qubits-again = form-behind (keyword (codes "qubit")) w.Qubit refl (form-pair (form-maybe (size-again s outer)) (label-again s outer))
 
   pub qubit-again : Reader s outer qubit_item qubit_item ItemTail SameItemTail Any
   qubit-again = item-line qubits-again (λ c at. item_of.Qubit at c.0 c.1) (λ c at. refl) (λ c at at'. refl)
 
   pub register-again : Reader s outer register_item register_item ItemTail SameItemTail Any
-  register-again = item-line (form-behind qreg-fixed (form-pair (label-again s outer) (form-maybe (size-again s outer)))) (λ c at. item_of.QubitRegister at c.0 c.1) (λ c at. refl) (λ c at at'. refl)
+  register-again = item-line (form-behind (keyword (codes "qreg")) w.Qreg refl (form-pair (label-again s outer) (form-maybe (size-again s outer)))) (λ c at. item_of.QubitRegister at c.0 c.1) (λ c at. refl) (λ c at at'. refl)
 
   list-again : Rereads s outer list values_words
-  list-again = form-within left_brace-fixed right_brace-fixed (entry-again s outer)
+  list-again = form-braces (entry-again s outer)
 
   pub entry_rule-again : Rereads s outer (rule an_entry) entries_words
-  entry_rule-again = form-separated comma-fixed (form-either (form-tree list-again entry_of.List item_words item-list_words) (form-tree (expression-again s outer) entry_of.Value item_words item-value_words))
+  entry_rule-again = form-commas (form-either (form-tree list-again entry_of.List item_words item-list_words) (form-tree (expression-again s outer) entry_of.Value item_words item-value_words))
 
   pub array-again : Reader s outer array_item array_item ItemTail SameItemTail Any
-  array-again = item-line (form-behind array-fixed (form-pair (form-within left_bracket-fixed right_bracket-fixed (in_array-again s outer)) (form-pair (label-again s outer) (form-maybe (form-behind assign-fixed list-again)))))
+  array-again = item-line (form-behind (keyword (codes "array")) w.Array refl (form-pair (form-brackets (in_array-again s outer)) (form-pair (label-again s outer) (form-maybe (form-behind (operator (codes "=")) w.Assign refl list-again)))))
       (λ c at. item_of.Array (record { place = at; scalar = c.0.0; dimensions = c.0.1; name = c.1.0; value = c.1.1 })) (λ c at. refl) (λ c at at'. refl)
 
   pub in_array_rule-again : Rereads s outer (rule in_array) in_array_words
   in_array_rule-again = form-pair (scalar-again s outer)
-      (form-then (form-sign comma-fixed) (form-filled comma-fixed (expression-again s outer)) (λ x y. y) (λ xs l. each_behind comma (map expr_words xs) ≡ l) (λ x y. x ≡ y)
+      (form-then (form-sign comma w.Comma refl) (form-filled comma w.Comma refl (expression-again s outer)) (λ x y. y) (λ xs l. each_behind comma (map expr_words xs) ≡ l) (λ x y. x ≡ y)
       (λ x xs l m h g. behind_comma xs g.0 ∙ words_both (comma ∷ []) (separated comma (map expr_words xs)) l m h g.1) (λ x x' y y' same alike. alike) (λ y l h m j has next. tt))
 
   pub parameters_rule-again : Rereads s outer (rule parameters) all_parameters_words
-  parameters_rule-again = form-separated comma-fixed (form-either (form-plain (scalar-again s outer) (label-again s outer) (λ x name. parameter_of.Classical x name) parameter_words (λ x y. refl))
+  parameters_rule-again = form-commas (form-either (form-plain (scalar-again s outer) (label-again s outer) (λ x name. parameter_of.Classical x name) parameter_words (λ x y. refl))
       (form-tree qubits-again (λ c. parameter_of.Qubits c.0 c.1) parameter_words (λ c. refl)))

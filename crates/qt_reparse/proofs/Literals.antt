@@ -1,5 +1,5 @@
 -- Tokens whose spelling is part of the tree: names, numbers, bit strings.
-use Rattle.std.proofs.Common.{◌≡◌, ℕ, ◌^◌, ◌%◌, ◌<◌, Bool, true, false, List, [], ◌∷◌, if◌then◌else◌, Option, refl, sym, ◌∙◌, ap, arith}
+use Rattle.std.proofs.Common.{◌≡◌, ℕ, ◌^◌, ◌%◌, ◌<◌, Bool, true, false, List, [], ◌∷◌, if◌then◌else◌, Option, refl, sym, ◌∙◌, ap, arith, codes}
 use Rattle.std.specs.Fmt.{decimal}
 use Rattle.qt_tree.specs.declared.expression.Expr.TheVariants as e
 use Rattle.qt_words.specs.declared.word.Word.TheVariants as w
@@ -9,17 +9,18 @@ use Rattle.qt_words.specs.Terminals.{Terminal}
 use Rattle.qt_words.specs.Literals.{integer_of, bits_of, bit_count}
 use Rattle.qt_grammar.specs.Form.{member, ReadsOne}
 use Rattle.qt_grammar.specs.Language.{sign, a_label, names, literal, literals}
-use Rattle.qt_print.specs.Words.{Word, integer, bits}
+use Rattle.qt_print.specs.declared.role.Role.TheVariants as r
+use Rattle.qt_print.specs.Words.{Word, word, integer, bits, keyword}
 use Rattle.qt_print.specs.Expressions.{expr_words}
 use Rattle.qt_print.specs.Programs.{name_words, names_words}
 use Rattle.qt_print.proofs.Equations.{whole_words, bits_words, pi_words, tau_words, truth_words}
 use Rattle.qt_wording.specs.Faithful.{AreNumbersAgain}
 use Rattle.qt_wording.specs.Spelling.{meaning}
 use Rattle.qt_reparse.proofs.Streams.{Streams, word_in, word_is}
-use Rattle.qt_reparse.proofs.Fixed.{integer_means, text_means, pi-fixed, tau-fixed, true-fixed, false-fixed, comma-fixed}
+use Rattle.qt_reparse.proofs.Fixed.{integer_means, text_means}
 use Rattle.qt_reparse.proofs.Again.{Again, Any, Kept, again-one}
 use Rattle.qt_reparse.proofs.Plain.{plain-label}
-use Rattle.qt_reparse.proofs.Forms.{form-word, form-separated, form-as, form-either}
+use Rattle.qt_reparse.proofs.Forms.{form-word, form-as, form-either, form-commas}
 use Rattle.qt_print.specs.Literals.{bit_text}
 use Rattle.qt_reparse.proofs.BitTexts.{bit_text_again}
 use Rattle.qt_reparse.proofs.Setting.{Setting, Reader, Rereads}
@@ -46,7 +47,7 @@ module _ (s : Setting) (outer : Option ℕ) where
   label-again = record { reads = plain-label }
 
   pub names-again : Rereads s outer names names_words
-  names-again = form-separated comma-fixed label-again
+  names-again = form-commas label-again
 
   whole-again : Rereads s outer (literal w.Integer (λ c. e.Whole (integer_of c % 2 ^ 64))) expr_words
   whole-again = form-as (literal-again w.Integer (λ t. integer (integer_of t.spelling % 2 ^ 64)) refl (λ i h. integer_means (integer_of ((s.streams.old i).spelling) % 2 ^ 64)))
@@ -54,16 +55,16 @@ module _ (s : Setting) (outer : Option ℕ) where
       (λ t t' kept. ap e.Whole (number_kept s.streams.numbers (integer_of t.spelling) t'.spelling kept.3))
 
   pi-again : Rereads s outer (literal w.Pi (λ c. e.Pi)) expr_words
-  pi-again = form-word pi-fixed e.Pi expr_words pi_words
+  pi-again = form-word (word r.Constant (codes "pi")) w.Pi refl e.Pi expr_words pi_words
 
   tau-again : Rereads s outer (literal w.Tau (λ c. e.Tau)) expr_words
-  tau-again = form-word tau-fixed e.Tau expr_words tau_words
+  tau-again = form-word (word r.Constant (codes "tau")) w.Tau refl e.Tau expr_words tau_words
 
   true-again : Rereads s outer (literal w.True (λ c. e.Bool true)) expr_words
-  true-again = form-word true-fixed (e.Bool true) expr_words (truth_words true)
+  true-again = form-word (keyword (codes "true")) w.True refl (e.Bool true) expr_words (truth_words true)
 
   false-again : Rereads s outer (literal w.False (λ c. e.Bool false)) expr_words
-  false-again = form-word false-fixed (e.Bool false) expr_words (truth_words false)
+  false-again = form-word (keyword (codes "false")) w.False refl (e.Bool false) expr_words (truth_words false)
 
   bits-again : Rereads s outer (literal w.BitText (λ c. e.BitText (bits_of c) (bit_count c))) expr_words
   bits-again = form-as (literal-again w.BitText printed refl means) (λ t. e.BitText (bits_of t.spelling) (bit_count t.spelling)) (λ v l. expr_words v ≡ l) (λ x y. x ≡ y)

@@ -3,8 +3,9 @@ use Rattle.std.proofs.Common.{◌≡◌, ℕ, Option}
 use Rattle.qt_grammar.specs.Sorts.{any, unary, block, single, an_index, a_range, a_set, an_entry, in_sizeof, in_array, parameters, gate_block}
 use Rattle.qt_grammar.specs.Form.{named}
 use Rattle.qt_print.specs.Expressions.{expr_words, index_words, range_words, list_words}
+use Rattle.qt_wording.proofs.Words.{entries_words, all_parameters_words, in_sizeof_words, in_array_words}
 use Rattle.qt_reparse.proofs.Again.{Any}
-use Rattle.qt_reparse.proofs.Setting.{Setting, Reader, Rereads, NoElse, SameStatements, SameGateLines, statements_words, gate_lines_words, entries_words, all_parameters_words, in_sizeof_words, in_array_words}
+use Rattle.qt_reparse.proofs.Setting.{Setting, Reader, Rereads, NoElse, SameStatements, SameGateLines, statements_words, gate_lines_words}
 
 module _ (s : Setting) (outer : Option ℕ) where
   pub any-again : Rereads s outer (named any) expr_words

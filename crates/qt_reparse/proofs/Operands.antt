@@ -4,13 +4,13 @@ use Rattle.qt_tree.specs.declared.statement.GateCall.{GateCall}
 use Rattle.qt_tree.specs.declared.statement.CalledGate.TheVariants as g
 use Rattle.qt_tree.specs.declared.statement.Right.TheVariants as r
 use Rattle.qt_tree.specs.declared.statement.Modifier.TheVariants as m
+use Rattle.qt_words.specs.declared.word.Word.TheVariants as w
 use Rattle.qt_grammar.specs.Sorts.{Value, expr, operand}
 use Rattle.qt_grammar.specs.Language.{an_operand, operands, a_target, measured, a_right, first_value, a_modifier, phase_call, named_call, under, modified_call, gate_call}
-use Rattle.qt_print.specs.Words.{Word, keyword}
+use Rattle.qt_print.specs.Words.{Word, keyword, operator}
 use Rattle.qt_print.specs.Statements.{operand_words, operands_words, target_words, right_words, assigned, modifier_words, gate_words, call_words}
-use Rattle.qt_reparse.proofs.Fixed.{comma-fixed, left_bracket-fixed, right_bracket-fixed, left_paren-fixed, right_paren-fixed, measure-fixed, assign-fixed, at-fixed, inv-fixed, pow-fixed, ctrl-fixed, negctrl-fixed, gphase-fixed}
 use Rattle.qt_reparse.proofs.Setting.{Setting, Rereads}
-use Rattle.qt_reparse.proofs.Forms.{form-word, form-behind, form-before, form-within, form-maybe, form-separated, form-some, form-or_none, form-tree, form-plain, form-pair, form-either}
+use Rattle.qt_reparse.proofs.Forms.{form-word, form-behind, form-before, form-maybe, form-some, form-or_none, form-tree, form-plain, form-pair, form-either, form-parens, form-brackets, form-commas}
 use Rattle.qt_reparse.proofs.Named.{any-again, index-again}
 use Rattle.qt_reparse.proofs.Literals.{label-again}
 use Rattle.qt_reparse.proofs.Scalars.{arguments-again, all_indexes-again}
@@ -22,32 +22,32 @@ unmodified_words it = gate_words it.gate ++ operands_words it.operands
 
 module _ (s : Setting) (outer : Option ℕ) where
   pub operand-again : Rereads s outer an_operand operand_words
-  operand-again = form-plain (label-again s outer) (form-maybe (form-within left_bracket-fixed right_bracket-fixed (index-again s outer))) (λ name at. record { name = name; index = at }) operand_words (λ x y. refl)
+  operand-again = form-plain (label-again s outer) (form-maybe (form-brackets (index-again s outer))) (λ name at. record { name = name; index = at }) operand_words (λ x y. refl)
 
   pub operands-again : Rereads s outer operands operands_words
-  operands-again = form-separated comma-fixed operand-again
+  operands-again = form-commas operand-again
 
   pub target-again : Rereads s outer a_target target_words
   target-again = form-plain (label-again s outer) (form-or_none (all_indexes-again s outer) refl) (λ name at. record { name = name; brackets = at }) target_words (λ x y. refl)
 
   pub measured-again : Rereads s outer measured (λ x. keyword (codes "measure") ∷ operand_words x)
-  measured-again = form-behind measure-fixed operand-again
+  measured-again = form-behind (keyword (codes "measure")) w.Measure refl operand-again
 
   pub right-again : Rereads s outer a_right right_words
   right-again = form-either (form-tree measured-again r.Measure right_words (λ x. refl)) (form-tree (expression-again s outer) r.Value right_words (λ x. refl))
 
   pub first_value-again : Rereads s outer first_value assigned
-  first_value-again = form-behind assign-fixed right-again
+  first_value-again = form-behind (operator (codes "=")) w.Assign refl right-again
 
   modifier-again : Rereads s outer a_modifier modifier_words
-  modifier-again = form-either (form-word inv-fixed m.Inv modifier_words refl)
-      (form-either (form-tree (form-behind pow-fixed (form-within left_paren-fixed right_paren-fixed (any-again s outer))) m.Pow modifier_words (λ x. refl))
-      (form-either (form-tree (form-behind ctrl-fixed (form-maybe (form-within left_paren-fixed right_paren-fixed (any-again s outer)))) m.Ctrl modifier_words (λ x. refl))
-      (form-tree (form-behind negctrl-fixed (form-maybe (form-within left_paren-fixed right_paren-fixed (any-again s outer)))) m.NegCtrl modifier_words (λ x. refl))))
+  modifier-again = form-either (form-word (keyword (codes "inv")) w.Inv refl m.Inv modifier_words refl)
+      (form-either (form-tree (form-behind (keyword (codes "pow")) w.Pow refl (form-parens (any-again s outer))) m.Pow modifier_words (λ x. refl))
+      (form-either (form-tree (form-behind (keyword (codes "ctrl")) w.Ctrl refl (form-maybe (form-parens (any-again s outer)))) m.Ctrl modifier_words (λ x. refl))
+      (form-tree (form-behind (keyword (codes "negctrl")) w.NegCtrl refl (form-maybe (form-parens (any-again s outer)))) m.NegCtrl modifier_words (λ x. refl))))
 
   -- a call without modifiers, by any words of it that leave them out or have none
   phase-again : (words : GateCall → List Word) → ((x : Value expr) (xs : List (Value operand)) → words (record { modifiers = []; gate = g.GlobalPhase x; operands = xs }) ≡ unmodified_words (record { modifiers = []; gate = g.GlobalPhase x; operands = xs })) → Rereads s outer phase_call words
-  phase-again words e = form-tree (form-behind gphase-fixed (form-pair (form-within left_paren-fixed right_paren-fixed (any-again s outer)) (form-or_none operands-again refl)))
+  phase-again words e = form-tree (form-behind (keyword (codes "gphase")) w.GPhase refl (form-pair (form-parens (any-again s outer)) (form-or_none operands-again refl)))
       (λ c. record { modifiers = []; gate = g.GlobalPhase c.0; operands = c.1 }) words (λ c. e c.0 c.1)
 
   named-again : (words : GateCall → List Word) → ((text : List ℕ) (xs : Option (List (Value expr))) (qs : List (Value operand)) → words (record { modifiers = []; gate = g.Named text xs; operands = qs }) ≡ unmodified_words (record { modifiers = []; gate = g.Named text xs; operands = qs })) → Rereads s outer named_call words
@@ -58,7 +58,7 @@ module _ (s : Setting) (outer : Option ℕ) where
   phase_call-again = phase-again call_words (λ x xs. refl)
 
   pub modified_call-again : Rereads s outer modified_call call_words
-  modified_call-again = form-plain (form-some (form-before at-fixed modifier-again)) (form-either (phase-again unmodified_words (λ x xs. refl)) (named-again unmodified_words (λ text xs qs. refl))) under call_words (λ ms c. refl)
+  modified_call-again = form-plain (form-some (form-before (operator (codes "@")) w.At refl modifier-again)) (form-either (phase-again unmodified_words (λ x xs. refl)) (named-again unmodified_words (λ text xs qs. refl))) under call_words (λ ms c. refl)
 
   pub gate_call-again : Rereads s outer gate_call call_words
   gate_call-again = form-either modified_call-again (form-either phase_call-again (named-again call_words (λ text xs qs. refl)))

@@ -1,12 +1,13 @@
 -- One or more parts that have lines of their own: the statements of a body, what stands in a gate's body, the items of a program.
-use Rattle.std.proofs.Common.{◌≡◌, ℕ, List, [], ◌∷◌, ◌++◌, map, Option, refl, sym, ◌∙◌, ap, subst, append_assoc}
+use Rattle.std.proofs.Common.{◌≡◌, ℕ, List, [], ◌∷◌, ◌++◌, map, Option, refl, sym, ◌∙◌, ap, subst}
+use Rattle.std.proofs.lemmas.List.{append-nil}
 use Rattle.qt_grammar.specs.Sorts.{Sort, Value, several}
 use Rattle.qt_grammar.specs.Form.{Form}
 use Rattle.qt_grammar.specs.Language.{some, listed, or_none}
 use Rattle.qt_print.specs.Words.{Word}
 use Rattle.qt_print.specs.Statements.{Line, all_lines}
 use Rattle.qt_wording.specs.Written.{words_of, Written}
-use Rattle.qt_reparse.proofs.Streams.{nothing_behind}
+use Rattle.qt_wording.proofs.Lists.{lines_push}
 use Rattle.qt_reparse.proofs.Plain.{words_both}
 use Rattle.qt_reparse.proofs.Setting.{Setting, Reader}
 use Rattle.qt_reparse.proofs.Forms.{form-empty, form-as, form-perhaps, form-chain}
@@ -18,18 +19,14 @@ module _ {A B : Type 0} (lines : A → List Line) (bare : A → B) where
   parts_words all = words_of (all_lines (map lines all))
 
   parts_push : (xs : List A) (x : A) → parts_words (xs ++ x ∷ []) ≡ parts_words xs ++ words_of (lines x)
-  parts_push [] x = words_of_both (lines x) [] ∙ sym (nothing_behind (words_of (lines x)))
-  parts_push (y ∷ ys) x =
-      words_of_both (lines y) (all_lines (map lines (ys ++ x ∷ [])))
-      ∙ (ap (λ t. words_of (lines y) ++ t) (parts_push ys x)
-      ∙ (sym (append_assoc (words_of (lines y)) (parts_words ys) (words_of (lines x))) ∙ ap (λ t. t ++ words_of (lines x)) (sym (words_of_both (lines y) (all_lines (map lines ys))))))
+  parts_push xs x = ap words_of (lines_push lines xs x) ∙ words_of_both (all_lines (map lines xs)) (lines x)
 
   bare_push : (xs : List A) (x : A) → map bare (xs ++ x ∷ []) ≡ map bare xs ++ bare x ∷ []
   bare_push [] x = refl
   bare_push (y ∷ ys) x = ap (λ t. bare y ∷ t) (bare_push ys x)
 
 pub one_part : {A : Type 0} (lines : A → List Line) (x : A) → words_of (all_lines (map lines (x ∷ []))) ≡ words_of (lines x)
-one_part lines x = words_of_both (lines x) [] ∙ sym (nothing_behind (words_of (lines x)))
+one_part lines x = ap words_of (append-nil (lines x))
 
 module _ {s : Setting} {outer : Option ℕ} {t : Sort} {f : Form t} {N : ℕ → Type 0} {B : Type 0} where
   pub form-parts : (lines : Value t → List Line) (bare : Value t → B) → Reader s outer f f (λ x l. words_of (lines x) ≡ l) (λ x y. bare x ≡ bare y) N

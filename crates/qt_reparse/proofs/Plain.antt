@@ -1,15 +1,17 @@
 -- Forms without places: what is read again is equal to what was read.
-use Rattle.std.proofs.Common.{◌≡◌, ℕ, ◌⊎◌, List, [], ◌∷◌, ◌++◌, map, Option, Some, None, refl, sym, ◌∙◌, ap, append_assoc}
+use Rattle.std.proofs.Common.{◌≡◌, ℕ, ◌⊎◌, List, [], ◌∷◌, ◌++◌, map, Option, Some, None, refl, sym, ◌∙◌, ap}
+use Rattle.std.proofs.lemmas.List.{append-nil}
 use Rattle.qt_words.specs.declared.word.Word.{Word as GrammarWord}
 use Rattle.qt_words.specs.declared.word.Word.TheVariants as w
 use Rattle.qt_words.specs.Words.{code, is_operator}
 use Rattle.qt_words.specs.Terminals.{Terminal}
 use Rattle.qt_grammar.specs.Form.{Reading, ReadsOne, ReadsThen, ReadsChain}
 use Rattle.qt_grammar.specs.Language.{listed}
-use Rattle.qt_print.specs.Words.{Word, name, each_behind, separated, joined, optional}
+use Rattle.qt_print.specs.Words.{Word, name, separated, joined, optional}
 use Rattle.qt_print.specs.Programs.{name_words}
 use Rattle.qt_wording.specs.Spelling.{meaning}
-use Rattle.qt_reparse.proofs.Streams.{Streams, nothing_behind, word_in, word_is}
+use Rattle.qt_wording.proofs.Lists.{Filled, filled_push, separated_push, joined_push}
+use Rattle.qt_reparse.proofs.Streams.{Streams, word_in, word_is}
 use Rattle.qt_reparse.proofs.Fixed.{Fixed, name_means}
 use Rattle.qt_reparse.proofs.Again.{Again, Any, again-one, again-empty, again-told, again-tree, again-then, again-maybe, again-chain}
 
@@ -18,28 +20,6 @@ Plain z r c w = Again z r c (λ v l. w v ≡ l) (λ x y. x ≡ y) Any
 
 pub words_both : (a b l m : List Word) → a ≡ l → b ≡ m → a ++ b ≡ l ++ m
 words_both a b l m h g = ap (λ t. t ++ b) h ∙ ap (λ t. l ++ t) g
-
-abbrev pub Filled : {A : Type 0} → List A → Type 0
-Filled [] = ⊥
-Filled (x ∷ xs) = Unit {0}
-
-pub filled_push : {A : Type 0} (xs : List A) (x : A) → Filled (xs ++ x ∷ [])
-filled_push [] x = tt
-filled_push (y ∷ ys) x = tt
-
-module _ {A : Type 0} (words : A → List Word) where
-  each_push : (between : Word) (xs : List A) (x : A) → each_behind between (map words (xs ++ x ∷ [])) ≡ each_behind between (map words xs) ++ (between ∷ words x)
-  each_push between [] x = ap (λ t. between ∷ t) (sym (nothing_behind (words x)))
-  each_push between (y ∷ ys) x =
-      ap (λ t. between ∷ t) (ap (λ t. words y ++ t) (each_push between ys x) ∙ sym (append_assoc (words y) (each_behind between (map words ys)) (between ∷ words x)))
-
-  separated_push : (between : Word) (xs : List A) (x : A) → Filled xs → separated between (map words (xs ++ x ∷ [])) ≡ separated between (map words xs) ++ (between ∷ words x)
-  separated_push between [] x n = absurd n
-  separated_push between (y ∷ ys) x n = ap (λ t. words y ++ t) (each_push between ys x) ∙ sym (append_assoc (words y) (each_behind between (map words ys)) (between ∷ words x))
-
-  pub joined_push : (xs : List A) (x : A) → joined (map words (xs ++ x ∷ [])) ≡ joined (map words xs) ++ words x
-  joined_push [] x = sym (nothing_behind (words x))
-  joined_push (y ∷ ys) x = ap (λ t. words y ++ t) (joined_push ys x) ∙ sym (append_assoc (words y) (joined (map words ys)) (words x))
 
 module _ {z : Streams} where
   pub again-sign : {m : Word} {k : GrammarWord} → Fixed m k → Again z (ReadsOne z.old (code k ∷ [])) (ReadsOne z.new (code k ∷ [])) (λ t l. m ∷ [] ≡ l) (λ x y. Unit {0}) Any
@@ -69,7 +49,7 @@ module _ {z : Streams} where
         → Again z (ReadsChain (λ x. x ∷ []) (λ xs c x. xs ++ x ∷ []) r (ReadsOne z.old (code k ∷ []))) (ReadsChain (λ x. x ∷ []) (λ xs c x. xs ++ x ∷ []) c (ReadsOne z.new (code k ∷ [])))
         (λ xs l. Filled xs × (separated m (map words xs) ≡ l)) (λ x y. x ≡ y) Any
     again-separated {m} f a = again-chain a (again-sign f) (λ x. x ∷ []) (λ xs c x. xs ++ x ∷ []) (λ xs l. Filled xs × (separated m (map words xs) ≡ l)) (λ x y. x ≡ y)
-        (λ x l h. (tt, sym (nothing_behind (words x)) ∙ h))
+        (λ x l h. (tt, append-nil (words x) ∙ h))
         (λ xs y x l n o h g e. (filled_push xs x, separated_push words m xs x h.0 ∙ words_both (separated m (map words xs)) (m ∷ words x) l (n ++ o) h.1 (words_both (m ∷ []) (words x) n o g e)))
         (λ x x' s. ap (λ t. t ∷ []) s) (λ xs xs' y y' x x' s t u. ap (λ t. t ++ x ∷ []) s ∙ ap (λ t. xs' ++ t ∷ []) u)
         (λ y x l n h g i j has f. tt)
@@ -82,7 +62,7 @@ module _ {z : Streams} where
     pub plain-some : Plain z r c words
         → Plain z (ReadsChain (λ x. x ∷ []) (λ xs c x. xs ++ x ∷ []) r (λ i v j. (v ≡ tt {0}) × (j ≡ i))) (ReadsChain (λ x. x ∷ []) (λ xs c x. xs ++ x ∷ []) c (λ i v j. (v ≡ tt {0}) × (j ≡ i))) (λ xs. joined (map words xs))
     plain-some a = again-chain a (again-empty z (tt {0})) (λ x. x ∷ []) (λ xs c x. xs ++ x ∷ []) (λ xs l. joined (map words xs) ≡ l) (λ x y. x ≡ y)
-        (λ x l h. sym (nothing_behind (words x)) ∙ h)
+        (λ x l h. append-nil (words x) ∙ h)
         (λ xs y x l n o h g e. joined_push words xs x ∙ words_both (joined (map words xs)) (words x) l (n ++ o) h (words_both [] (words x) n o g e))
         (λ x x' s. ap (λ t. t ∷ []) s) (λ xs xs' y y' x x' s t u. ap (λ t. t ++ x ∷ []) s ∙ ap (λ t. xs' ++ t ∷ []) u)
         (λ y x l n h g i j has f. tt)

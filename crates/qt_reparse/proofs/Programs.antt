@@ -12,22 +12,24 @@ use Rattle.qt_words.specs.Literals.{integer_of}
 use Rattle.qt_grammar.specs.Sorts.{item, gate_block}
 use Rattle.qt_grammar.specs.Language.{of_which, or_none, some, gate_line_form, a_gate_line, gate_item, definition, statement_item, global, number_form, version_form, rule}
 use Rattle.qt_print.specs.declared.role.Role.TheVariants as r
-use Rattle.qt_print.specs.Words.{Word, word, keyword, name, integer, semicolon, parenthesized, optional as optional_words}
+use Rattle.qt_print.specs.Words.{Word, word, keyword, name, integer, semicolon, parenthesized, optional as optional_words, operator}
 use Rattle.qt_print.specs.Statements.{body_start, body_end, all_lines, statement_lines}
 use Rattle.qt_print.specs.Programs.{number_word, version_lines, item_lines, gate_form_words, gate_statement_lines, gate_head, names_words, parameters_words, result_words, definition_head}
 use Rattle.qt_wording.specs.Places.{origin, bare_statement, bare_gate_statement, bare_item, bare_version}
 use Rattle.qt_wording.specs.Written.{words_of}
-use Rattle.qt_reparse.proofs.Fixed.{integer_means, decimal_means, semicolon-fixed, left_paren-fixed, right_paren-fixed, body_start-fixed, body_end-fixed, gate-fixed, def-fixed, arrow-fixed, barrier-fixed, openqasm-fixed}
+use Rattle.qt_wording.proofs.Words.{all_parameters_words}
+use Rattle.qt_wording.proofs.Bare.{bare_statement_is}
+use Rattle.qt_reparse.proofs.Fixed.{integer_means, decimal_means}
 use Rattle.qt_reparse.proofs.Again.{Any}
 use Rattle.qt_reparse.proofs.Plain.{words_both}
-use Rattle.qt_reparse.proofs.Setting.{Setting, Reader, Rereads, NoElse, SameGateLines, gate_lines_words, all_parameters_words}
-use Rattle.qt_reparse.proofs.Forms.{form-behind, form-before, form-within, form-maybe, form-or_none, form-tree, form-lead, form-weaken, form-either, form-here, form-as, form-then}
+use Rattle.qt_reparse.proofs.Setting.{Setting, Reader, Rereads, NoElse, SameGateLines, gate_lines_words}
+use Rattle.qt_reparse.proofs.Forms.{form-behind, form-within, form-maybe, form-or_none, form-tree, form-lead, form-weaken, form-either, form-here, form-as, form-then, form-parens, form-ended}
 use Rattle.qt_reparse.proofs.Parts.{form-parts, form-parts_or_none}
 use Rattle.qt_reparse.proofs.Named.{parameters-again, gate_block-again}
 use Rattle.qt_reparse.proofs.Literals.{literal-again, label-again, names-again, number_kept}
 use Rattle.qt_reparse.proofs.Scalars.{scalar-again}
 use Rattle.qt_reparse.proofs.Operands.{gate_call-again}
-use Rattle.qt_reparse.proofs.Sentences.{body_words, words_of_sentence, words_of_block, statement_words_is, bare_statement_is}
+use Rattle.qt_reparse.proofs.Sentences.{body_words, words_of_sentence, words_of_block, statement_words_is}
 use Rattle.qt_reparse.proofs.Beginnings.{no_else, item_starts}
 use Rattle.qt_reparse.proofs.Bodies.{a_block-again}
 use Rattle.qt_reparse.proofs.Statements.{statement_form-again}
@@ -49,8 +51,8 @@ definition_words_is it =
 
 module _ (s : Setting) (outer : Option ℕ) where
   gate_line_form-again : Rereads s outer gate_line_form (λ x. gate_form_words x ++ semicolon ∷ [])
-  gate_line_form-again = form-either (form-tree (form-before semicolon-fixed (gate_call-again s outer)) gate_form_of.Call (λ x. gate_form_words x ++ semicolon ∷ []) (λ x. refl))
-      (form-tree (form-before semicolon-fixed (form-behind barrier-fixed (form-or_none (names-again s outer) refl))) gate_form_of.Barrier (λ x. gate_form_words x ++ semicolon ∷ []) (λ x. refl))
+  gate_line_form-again = form-either (form-tree (form-ended (gate_call-again s outer)) gate_form_of.Call (λ x. gate_form_words x ++ semicolon ∷ []) (λ x. refl))
+      (form-tree (form-ended (form-behind (keyword (codes "barrier")) w.Barrier refl (form-or_none (names-again s outer) refl))) gate_form_of.Barrier (λ x. gate_form_words x ++ semicolon ∷ []) (λ x. refl))
 
   gate_line-again : Reader s outer a_gate_line a_gate_line (λ x l. words_of (gate_statement_lines x) ≡ l) (λ x y. bare_gate_statement x ≡ bare_gate_statement y) Any
   gate_line-again = form-then form-here gate_line_form-again (λ at x. record { place = at; form = x }) (λ x l. words_of (gate_statement_lines x) ≡ l) (λ x y. bare_gate_statement x ≡ bare_gate_statement y)
@@ -61,8 +63,8 @@ module _ (s : Setting) (outer : Option ℕ) where
   gate_block_rule-again = form-parts gate_statement_lines bare_gate_statement gate_line-again (λ x i j has next. tt)
 
   gate-again : Reader s outer gate_item gate_item ItemTail SameItemTail Any
-  gate-again = form-as (form-behind gate-fixed (form-lead (label-again s outer) (form-lead (form-maybe (form-within left_paren-fixed right_paren-fixed (form-or_none (names-again s outer) refl)))
-      (form-lead (names-again s outer) (form-within body_start-fixed body_end-fixed (form-parts_or_none gate_statement_lines bare_gate_statement (gate_block-again s outer)))))))
+  gate-again = form-as (form-behind (keyword (codes "gate")) w.Gate refl (form-lead (label-again s outer) (form-lead (form-maybe (form-parens (form-or_none (names-again s outer) refl)))
+      (form-lead (names-again s outer) (form-within body_start body_end w.LeftBrace w.RightBrace refl refl (form-parts_or_none gate_statement_lines bare_gate_statement (gate_block-again s outer)))))))
       (λ c at. item_of.Gate (record { place = at; name = c.0; parameters = c.1.0; qubits = c.1.1.0; body = c.1.1.1 })) ItemTail SameItemTail
       (λ c l h at. gate_words_is (record { place = at; name = c.0; parameters = c.1.0; qubits = c.1.1.0; body = c.1.1.1 }) at ∙ h)
       (λ c d same at at'.
@@ -72,8 +74,8 @@ module _ (s : Setting) (outer : Option ℕ) where
       ∙ ap (λ t. item_of.Gate (record { place = origin; name = d.0; parameters = d.1.0; qubits = d.1.1.0; body = t })) same.1.1.1)))
 
   definition-again : Reader s outer definition definition ItemTail SameItemTail Any
-  definition-again = form-as (form-behind def-fixed (form-lead (label-again s outer) (form-lead (form-within left_paren-fixed right_paren-fixed (form-or_none (parameters-again s outer) refl))
-      (form-lead (form-maybe (form-behind arrow-fixed (scalar-again s outer))) (a_block-again s outer)))))
+  definition-again = form-as (form-behind (keyword (codes "def")) w.Def refl (form-lead (label-again s outer) (form-lead (form-parens (form-or_none (parameters-again s outer) refl))
+      (form-lead (form-maybe (form-behind (operator (codes "->")) w.Arrow refl (scalar-again s outer))) (a_block-again s outer)))))
       (λ c at. item_of.Definition (record { place = at; name = c.0; parameters = c.1.0; result = c.1.1.0; body = c.1.1.1 })) ItemTail SameItemTail
       (λ c l h at. definition_words_is (record { place = at; name = c.0; parameters = c.1.0; result = c.1.1.0; body = c.1.1.1 }) ∙ h)
       (λ c d same at at'.
@@ -106,6 +108,6 @@ module _ (s : Setting) (outer : Option ℕ) where
       (λ k. number_of.Decimal k.spelling) (λ v l. number_word v ∷ [] ≡ l) (λ x y. x ≡ y) (λ t l h. h) (λ t t' kept. ap number_of.Decimal (sym kept.3)))
 
   pub version-again : Reader s outer version_form version_form (λ x l. words_of (version_lines x) ≡ l) (λ x y. bare_version (Some x) ≡ bare_version (Some y)) Any
-  version-again = form-then form-here (form-before semicolon-fixed (form-behind openqasm-fixed number-again)) (λ at x. record { place = at; number = x }) (λ x l. words_of (version_lines x) ≡ l) (λ x y. bare_version (Some x) ≡ bare_version (Some y))
+  version-again = form-then form-here (form-ended (form-behind (keyword (codes "OPENQASM")) w.OpenQasm refl number-again)) (λ at x. record { place = at; number = x }) (λ x l. words_of (version_lines x) ≡ l) (λ x y. bare_version (Some x) ≡ bare_version (Some y))
       (λ at x l m h g. words_of_sentence (keyword (codes "OPENQASM") ∷ number_word x ∷ []) ∙ words_both [] (keyword (codes "OPENQASM") ∷ number_word x ∷ semicolon ∷ []) l m h g)
       (λ at at' x x' same alike. ap (λ t. Some (record { place = origin; number = t })) alike) (λ y l h m j has next. tt)

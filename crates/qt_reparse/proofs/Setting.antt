@@ -1,44 +1,28 @@
 -- What is known of the forms with names, at some number of levels, and what is to be shown of each form one level above.
-use Rattle.std.proofs.Common.{◌≡◌, ℕ, false, List, [], ◌∷◌, ◌++◌, map, Option}
-use Rattle.qt_tree.specs.declared.expression.Expr.{Expr}
-use Rattle.qt_tree.specs.declared.expression.Scalar.{Scalar}
-use Rattle.qt_tree.specs.declared.program.ListItem.{ListItem}
+use Rattle.std.proofs.Common.{◌≡◌, ℕ, false, List, [], ◌∷◌, map, Option}
 use Rattle.qt_tree.specs.declared.program.GateStatement.{GateStatement}
-use Rattle.qt_tree.specs.declared.program.Parameter.{Parameter}
 use Rattle.qt_tree.specs.declared.statement.Statement.{Statement}
 use Rattle.qt_words.specs.declared.word.Word.TheVariants as w
 use Rattle.qt_words.specs.Words.{code}
 use Rattle.qt_grammar.specs.Sorts.{Sort, Value, Name, sort, any, unary, block, single, an_index, a_range, a_set, an_entry, in_sizeof, in_array, parameters, gate_block}
 use Rattle.qt_grammar.specs.Form.{Form, Reading, ReadsBy, member, word_at}
-use Rattle.qt_print.specs.Words.{Word, name, comma, each_behind, separated}
-use Rattle.qt_print.specs.Expressions.{expr_words, index_words, scalar_words, range_words, list_words, second_words}
+use Rattle.qt_print.specs.Words.{Word}
+use Rattle.qt_print.specs.Expressions.{expr_words, index_words, range_words, list_words}
 use Rattle.qt_print.specs.Statements.{all_lines, statement_lines}
-use Rattle.qt_print.specs.Programs.{item_words, parameter_words, gate_statement_lines}
+use Rattle.qt_print.specs.Programs.{gate_statement_lines}
 use Rattle.qt_wording.specs.Places.{bare_statement, bare_gate_statement}
 use Rattle.qt_wording.specs.Written.{words_of}
+use Rattle.qt_wording.proofs.Words.{entries_words, all_parameters_words, in_sizeof_words, in_array_words}
 use Rattle.qt_reparse.proofs.Streams.{Streams}
 use Rattle.qt_reparse.proofs.Again.{Again, Any}
 use Rattle.qt_reparse.proofs.Plain.{Plain}
 
--- the words of statements, of the values of an array, of parameters, of what stands in a gate's body
+-- the words of statements, of what stands in a gate's body
 abbrev pub statements_words : List Statement → List Word
 statements_words all = words_of (all_lines (map statement_lines all))
 
 abbrev pub gate_lines_words : List GateStatement → List Word
 gate_lines_words all = words_of (all_lines (map gate_statement_lines all))
-
-abbrev pub entries_words : List ListItem → List Word
-entries_words all = separated comma (map item_words all)
-
-abbrev pub all_parameters_words : List Parameter → List Word
-all_parameters_words all = separated comma (map parameter_words all)
-
--- what stands in the parentheses of `sizeof`, in the brackets of an array
-abbrev pub in_sizeof_words : List ℕ × Option Expr → List Word
-in_sizeof_words v = name v.0 ∷ second_words v.1
-
-abbrev pub in_array_words : Scalar × List Expr → List Word
-in_array_words v = scalar_words v.0 ++ each_behind comma (map expr_words v.1)
 
 abbrev pub SameStatements : List Statement → List Statement → Type 0
 SameStatements xs ys = map bare_statement xs ≡ map bare_statement ys

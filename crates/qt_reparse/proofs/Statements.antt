@@ -1,19 +1,22 @@
 -- Statements, and the statements of a body.
-use Rattle.std.proofs.Common.{◌≡◌, ℕ, [], ◌∷◌, ◌++◌, Option, refl, sym, ◌∙◌, ap}
+use Rattle.std.proofs.Common.{◌≡◌, ℕ, [], ◌∷◌, ◌++◌, Option, refl, sym, ◌∙◌, ap, codes}
 use Rattle.qt_tree.specs.declared.statement.Statement.{Statement}
 use Rattle.qt_tree.specs.declared.statement.StatementForm.TheVariants as form_of
+use Rattle.qt_words.specs.declared.word.Word.TheVariants as w
 use Rattle.qt_grammar.specs.Sorts.{form, block, single}
 use Rattle.qt_grammar.specs.Form.{Form, Reading, ReadsChain}
 use Rattle.qt_grammar.specs.Language.{statement_form, a_statement, rule}
 use Rattle.qt_print.specs.Statements.{statement_lines}
 use Rattle.qt_wording.specs.Places.{origin, bare_statement, bare_form}
+use Rattle.qt_print.specs.Words.{keyword}
 use Rattle.qt_reparse.proofs.Streams.{Streams}
-use Rattle.qt_reparse.proofs.Fixed.{break-fixed, continue-fixed, end-fixed}
+use Rattle.qt_wording.proofs.Bare.{bare_statement_is}
+use Rattle.qt_print.proofs.Forms.{break_lines, continue_lines, end_lines}
 use Rattle.qt_reparse.proofs.Again.{Again, again-tree, again-into}
 use Rattle.qt_reparse.proofs.Plain.{words_both}
 use Rattle.qt_reparse.proofs.Setting.{Setting, Reader, Rereads, NoElse, SameStatements, statements_words}
 use Rattle.qt_reparse.proofs.Forms.{form-told, form-weaken, form-either, form-here, form-then}
-use Rattle.qt_reparse.proofs.Sentences.{form_words, statement_words, statement_words_is, bare_statement_is, break_is, continue_is, end_is}
+use Rattle.qt_reparse.proofs.Sentences.{form_words, statement_words, statement_words_is}
 use Rattle.qt_reparse.proofs.Beginnings.{no_else, statement_starts}
 use Rattle.qt_reparse.proofs.Parts.{one_part, form-parts}
 use Rattle.qt_reparse.proofs.Simple.{declaration-again, bit_register-again, constant-again, alias-again, gate_statement-again, measurement-again, reset-again, barrier-again, word_alone-again, return-again}
@@ -34,8 +37,8 @@ module _ (s : Setting) (outer : Option ℕ) where
   statement_form-again = form-either (placeless _ (declaration-again s outer)) (form-either (placeless _ (bit_register-again s outer)) (form-either (placeless _ (constant-again s outer)) (form-either (placeless _ (alias-again s outer))
       (form-either (placeless _ (by_name-again s outer)) (form-either (placeless _ (gate_statement-again s outer)) (form-either (placeless _ (measurement-again s outer)) (form-either (placeless _ (reset-again s outer))
       (form-either (placeless _ (barrier-again s outer)) (form-either (if-again s outer) (form-either (form-weaken (NoElse s.streams) (while-again s outer)) (form-either (form-weaken (NoElse s.streams) (for-again s outer))
-      (form-either (placeless _ (word_alone-again s outer break-fixed form_of.Break break_is)) (form-either (placeless _ (word_alone-again s outer continue-fixed form_of.Continue continue_is)) (form-either (placeless _ (return-again s outer))
-      (placeless _ (word_alone-again s outer end-fixed form_of.End end_is))))))))))))))))
+      (form-either (placeless _ (word_alone-again s outer (keyword (codes "break")) w.Break refl form_of.Break break_lines)) (form-either (placeless _ (word_alone-again s outer (keyword (codes "continue")) w.Continue refl form_of.Continue continue_lines)) (form-either (placeless _ (return-again s outer))
+      (placeless _ (word_alone-again s outer (keyword (codes "end")) w.EndWord refl form_of.End end_lines))))))))))))))))
 
   pub statement-again : Reader s outer a_statement a_statement (λ x l. statement_words x ≡ l) (λ x y. bare_statement x ≡ bare_statement y) (NoElse s.streams)
   statement-again = form-then form-here statement_form-again (λ at x. record { place = at; form = x }) (λ x l. statement_words x ≡ l) (λ x y. bare_statement x ≡ bare_statement y)

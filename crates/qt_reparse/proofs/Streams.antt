@@ -25,10 +25,6 @@ pub written_split : (ts : ℕ → Terminal) (xs ys : List Word) (i j : ℕ) → 
 written_split ts [] ys i j h = (i, refl, h)
 written_split ts (x ∷ xs) ys i j (a, b, h) = let r = written_split ts xs ys (i + 1) j h in (r.0, (a, b, r.1), r.2)
 
-pub nothing_behind : (xs : List Word) → xs ≡ xs ++ []
-nothing_behind [] = refl
-nothing_behind (x ∷ xs) = ap (λ t. x ∷ t) (nothing_behind xs)
-
 pub member_same : (n : ℕ) → IsTrue (member n (n ∷ []))
 member_same n = grind arith
 
