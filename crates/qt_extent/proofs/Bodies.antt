@@ -1,28 +1,20 @@
 -- Heads and their bodies: words, and the lines of statements in braces; and what holds of the forms with names.
-use Rattle.std.proofs.Common.{◌≡◌, ℕ, suc, ◌+◌, List, [], ◌∷◌, ◌++◌, map, codes, refl, sym, ◌∙◌, ap, arith, append_assoc, Option}
-use Rattle.qt_tree.specs.declared.expression.Expr.{Expr}
-use Rattle.qt_tree.specs.declared.expression.Scalar.{Scalar}
+use Rattle.std.proofs.Common.{ℕ, suc, ◌+◌, List, [], ◌∷◌, ◌++◌, map, codes, refl, sym, ap, arith, append_assoc}
+use Rattle.std.proofs.lemmas.List.{append-nil}
 use Rattle.qt_tree.specs.declared.statement.Statement.{Statement}
-use Rattle.qt_tree.specs.declared.program.ListItem.{ListItem}
-use Rattle.qt_tree.specs.declared.program.Parameter.{Parameter}
 use Rattle.qt_grammar.specs.Sorts.{Sort, Value, several, any, unary, block, single, an_index, a_range, a_set, an_entry, in_sizeof, in_array, parameters, gate_block}
 use Rattle.qt_grammar.specs.Form.{Form, one, as_tree, named}
 use Rattle.qt_grammar.specs.Language.{◌⊗◌, ◌⊳◌, braces, or_none, some, listed}
 use Rattle.qt_print.specs.declared.role.Role.TheVariants as r
-use Rattle.qt_print.specs.Words.{Word, word, name, comma, each_behind, separated}
+use Rattle.qt_print.specs.Words.{Word, word}
 use Rattle.qt_print.specs.Statements.{Line, indented, all_lines, block as block_lines, statement_lines}
-use Rattle.qt_print.specs.Expressions.{expr_words, index_words, scalar_words, range_words, list_words, second_words}
-use Rattle.qt_print.specs.Programs.{item_words, parameter_words, gate_statement_lines}
+use Rattle.qt_print.specs.Expressions.{expr_words, index_words, range_words, list_words}
+use Rattle.qt_print.specs.Programs.{gate_statement_lines}
+use Rattle.qt_wording.proofs.Lists.{lines_push}
+use Rattle.qt_wording.proofs.Words.{entries_words, all_parameters_words, in_sizeof_words, in_array_words}
 use Rattle.qt_extent.proofs.Costs.{Fit, fit_both, Paid, paid_both, paid_is, paid_more, paid_nothing, paid_block, paid_indented}
 use Rattle.qt_extent.proofs.Combinators.{Setting, Pays, Of, Any, pays_as, pays_tree, pays_then, pays_maybe, pays_chain, pays_empty}
 use Rattle.qt_extent.proofs.Tokens.{IsPrintedAs, pays_fixed}
-use Rattle.qt_extent.proofs.Lists.{nothing_behind}
-
--- the lines of several trees
-module _ {A : Type 0} (lines : A → List Line) where
-  all_push : (xs : List A) (x : A) → all_lines (map lines (xs ++ x ∷ [])) ≡ all_lines (map lines xs) ++ lines x
-  all_push [] x = sym (nothing_behind (lines x))
-  all_push (y ∷ ys) x = ap (λ t. lines y ++ t) (all_push ys x) ∙ sym (append_assoc (lines y) (all_lines (map lines ys)) (lines x))
 
 -- the lines of a tree are paid
 abbrev pub OfLines : {A : Type 0} → ℕ → (A → List Line) → A → ℕ → Type 0
@@ -35,11 +27,11 @@ inside lines xs = indented (all_lines (map lines xs))
 module _ {z : Setting} {s : Sort} {d : ℕ} {f : Form s} {x : Value s → List Line} where
   pub pays_all : Pays z f (OfLines d x) → Pays z (some f) (OfLines d (λ vs. all_lines (map x vs)))
   pays_all a = pays_chain {G = Any} a (pays_empty tt)
-      (λ v n p. paid_is (sym (nothing_behind (x v))) p)
-      (λ vs c v k m n p q r. paid_is (all_push x vs v) (paid_both (k + (m + n)) p r (omega arith)))
+      (λ v n p. paid_is (append-nil (x v)) p)
+      (λ vs c v k m n p q r. paid_is (lines_push x vs v) (paid_both (k + (m + n)) p r (omega arith)))
 
   pub pays_alone : Pays z f (OfLines d x) → Pays z (as_tree {s = s} {t = several s} (λ v. v ∷ []) f) (OfLines (suc d) (inside x))
-  pays_alone a = pays_tree a (λ v n p. paid_indented (paid_is (sym (nothing_behind (x v))) p))
+  pays_alone a = pays_tree a (λ v n p. paid_indented (paid_is (append-nil (x v)) p))
 
   pub pays_body_lines : Pays z f (OfLines d x) → Pays z (some f) (OfLines (suc d) (inside x))
   pays_body_lines a = pays_as (pays_all a) (λ vs n p. paid_indented p)
@@ -79,19 +71,6 @@ module _ {z : Setting} {s : Sort} {d : ℕ} {f : Form s} {x : Value s → List W
 
 -- ---- forms with names
 
--- what stands in the parentheses of `sizeof`, and in the brackets of an array
-abbrev pub sizeof_words : List ℕ × Option Expr → List Word
-sizeof_words v = name v.0 ∷ second_words v.1
-
-abbrev pub array_type_words : Scalar × List Expr → List Word
-array_type_words v = scalar_words v.0 ++ each_behind comma (map expr_words v.1)
-
-abbrev pub entries_words : List ListItem → List Word
-entries_words entries = separated comma (map item_words entries)
-
-abbrev pub all_parameters_words : List Parameter → List Word
-all_parameters_words all = separated comma (map parameter_words all)
-
 -- the lines of a body, which stand in as many bodies as there are levels
 abbrev pub Body : ℕ → List Statement → ℕ → Type 0
 Body d = OfLines d (inside statement_lines)
@@ -106,7 +85,7 @@ pub record Named (z : Setting) : Type 0 where
   pub of_range : Pays z (named a_range) (Of range_words)
   pub of_set : Pays z (named a_set) (Of list_words)
   pub of_entry : Pays z (named an_entry) (Of entries_words)
-  pub of_sizeof : Pays z (named in_sizeof) (Of sizeof_words)
-  pub of_array : Pays z (named in_array) (Of array_type_words)
+  pub of_sizeof : Pays z (named in_sizeof) (Of in_sizeof_words)
+  pub of_array : Pays z (named in_array) (Of in_array_words)
   pub of_parameters : Pays z (named parameters) (Of all_parameters_words)
   pub of_gate_block : Pays z (named gate_block) (OfLines z.level (inside gate_statement_lines))

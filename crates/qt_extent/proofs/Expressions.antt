@@ -1,5 +1,6 @@
 -- Each form of expressions, types, indexes and ranges.
-use Rattle.std.proofs.Common.{◌≡◌, ℕ, ◌+◌, List, [], ◌∷◌, ◌++◌, Option, Some, None, codes, true, false, refl, ◌∙◌, ap, arith, append_assoc}
+use Rattle.std.proofs.Common.{◌≡◌, ℕ, ◌+◌, List, [], ◌∷◌, ◌++◌, Option, Some, None, codes, true, false, refl, sym, ◌∙◌, ap, arith, append_assoc}
+use Rattle.std.proofs.lemmas.List.{append-nil}
 use Rattle.qt_tree.specs.declared.expression.BinaryOp.TheVariants as b
 use Rattle.qt_tree.specs.declared.expression.Expr.{Expr}
 use Rattle.qt_tree.specs.declared.expression.Range.{Range}
@@ -14,7 +15,7 @@ use Rattle.qt_print.proofs.Equations.{whole_words, bits_words, pi_words, tau_wor
 use Rattle.qt_extent.proofs.Costs.{Fit, fit_nothing, fit_both, fit_is, fit_more}
 use Rattle.qt_extent.proofs.Combinators.{Setting, Pays, Of, pays_counted, pays_tree, pays_either, pays_then, pays_maybe, pays_chain, pays_words, pays_made, pays_pair, pays_optional}
 use Rattle.qt_extent.proofs.Tokens.{pays_fixed, pays_fixed_operator, pays_behind, pays_parens, pays_brackets, pays_braces, pays_label, pays_number, pays_bits, pays_binary, pays_unary}
-use Rattle.qt_extent.proofs.Lists.{Row, pays_row, pays_separated, pays_some, pays_or_none, nothing_behind}
+use Rattle.qt_extent.proofs.Lists.{Row, pays_row, pays_separated, pays_some, pays_or_none}
 use Rattle.qt_extent.proofs.Bodies.{Named}
 
 pub pays_literals : {z : Setting} → Pays z literals (Of expr_words)
@@ -33,7 +34,7 @@ abbrev exponent_words : Expr → List Word
 exponent_words x = operator_word (codes "**") ∷ expr_words x
 
 powered_words : (x : Expr) (o : Option Expr) → expr_words (powered x o) ≡ expr_words x ++ words_if exponent_words o
-powered_words x None = nothing_behind (expr_words x)
+powered_words x None = sym (append-nil (expr_words x))
 powered_words x (Some y) = binary_words b.Pow x y
 
 abbrev last_words : Option Expr → List Word
@@ -44,7 +45,7 @@ rest_words v = expr_words v.0 ++ words_if last_words v.1
 
 range_of_words : (v : Option (Expr × Option (Option Expr))) (start : Option Expr) → range_words (range_of v start) ≡ end_words start ++ (colon ∷ words_if rest_words v)
 range_of_words None start = range-parts_words (range_of None start)
-range_of_words (Some (x, None)) start = range-parts_words (range_of (Some (x, None)) start) ∙ ap (λ t. end_words start ++ (colon ∷ t)) (nothing_behind (expr_words x))
+range_of_words (Some (x, None)) start = range-parts_words (range_of (Some (x, None)) start) ∙ ap (λ t. end_words start ++ (colon ∷ t)) (sym (append-nil (expr_words x)))
 range_of_words (Some (x, Some last)) start = range-parts_words (range_of (Some (x, Some last)) start) ∙ ap (λ t. end_words start ++ (colon ∷ t)) (append_assoc (expr_words x) (colon ∷ []) (end_words last))
 
 module _ {z : Setting} (h : Named z) where

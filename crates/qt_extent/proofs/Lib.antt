@@ -4,7 +4,6 @@ pub mod Tokens
 pub mod Lists
 pub mod Bodies
 pub mod Expressions
-pub mod Forms
 pub mod Operands
 pub mod Statements
 pub mod Items

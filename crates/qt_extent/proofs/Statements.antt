@@ -20,7 +20,7 @@ use Rattle.qt_extent.proofs.Combinators.{Setting, Pays, Of, pays_here, pays_tree
 use Rattle.qt_extent.proofs.Tokens.{pays_fixed, pays_behind, pays_parens, pays_ended, pays_label, pays_compound}
 use Rattle.qt_extent.proofs.Lists.{pays_separated}
 use Rattle.qt_extent.proofs.Expressions.{pays_size, pays_scalar, pays_arguments, pays_all_indexes, pays_expression}
-use Rattle.qt_extent.proofs.Forms.{declaration_lines, register_lines, constant_lines, alias_lines, assignment_lines, compound_lines, measurement_lines, reset_lines, barrier_lines, gate_lines, subroutine_lines, break_lines, continue_lines, return_lines, end_lines, while_lines, for_lines, if_lines, if_else_lines}
+use Rattle.qt_print.proofs.Forms.{declaration_lines, register_lines, constant_lines, alias_lines, assignment_lines, compound_lines, measurement_lines, reset_lines, barrier_lines, gate_lines, subroutine_lines, break_lines, continue_lines, return_lines, end_lines, while_lines, for_lines, if_lines, if_else_lines}
 use Rattle.qt_extent.proofs.Operands.{pays_operand, pays_operands, pays_any_operands, pays_target, pays_measured, pays_right, pays_first_value, pays_phase_call, pays_modified_call, pays_sequence}
 use Rattle.qt_extent.proofs.Bodies.{Named, Body, OfLines, pays_in_braces, pays_head, pays_in_head, pays_headed}
 

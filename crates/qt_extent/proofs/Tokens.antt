@@ -1,11 +1,10 @@
 -- Each word that is printed of a token: it is spelled, and the token's bytes pay for it.
-use Rattle.std.proofs.Common.{◌≡◌, ℕ, ◌*◌, ◌≤◌, ◌<◌, ◌%◌, ◌^◌, ◌⊎◌, inl, inr, Bool, true, false, not, ◌&&◌, ◌||◌, eqb, leb, IsTrue, List, [], ◌∷◌, ◌++◌, length, codes, refl, ◌∙◌, ap, arith}
+use Rattle.std.proofs.Common.{◌≡◌, ℕ, ◌*◌, ◌≤◌, ◌<◌, ◌%◌, ◌^◌, ◌⊎◌, inl, inr, Bool, true, false, not, ◌&&◌, leb, IsTrue, List, [], ◌∷◌, ◌++◌, length, codes, refl, arith}
 use Rattle.qt_tree.specs.declared.expression.BinaryOp.{BinaryOp}
 use Rattle.qt_tree.specs.declared.expression.BinaryOp.TheVariants as b
 use Rattle.qt_tree.specs.declared.expression.UnaryOperator.{UnaryOperator}
 use Rattle.qt_tree.specs.declared.expression.UnaryOperator.TheVariants as u
-use Rattle.qt_lex.specs.Bytes.{reserved_words, symbols}
-use Rattle.qt_lex.proofs.Tables.{and_left, and_right, not_false, or_cases, eqb_same}
+use Rattle.qt_lex.proofs.Tables.{and_left, and_right, not_false}
 use Rattle.qt_words.specs.declared.word.Word.{Word as GrammarWord}
 use Rattle.qt_words.specs.declared.word.Word.TheVariants as w
 use Rattle.qt_words.specs.Words.{code}
@@ -14,79 +13,17 @@ use Rattle.qt_words.proofs.Codes.{code_same}
 use Rattle.qt_grammar.specs.Sorts.{Sort, Value}
 use Rattle.qt_grammar.specs.Form.{Form, one, operator, member}
 use Rattle.qt_grammar.specs.Language.{sign, a_label, parens, brackets, braces, ended, ◌⊳◌, ◌⊲◌, binary_op, unary_op, compound_op}
-use Rattle.qt_print.specs.declared.role.Role.{Role}
 use Rattle.qt_print.specs.declared.role.Role.TheVariants as r
 use Rattle.qt_print.specs.Words.{Word, word, name, semicolon, parenthesized, bracketed, braced, integer, bits, quotation, operator as operator_word}
 use Rattle.qt_print.specs.Programs.{name_words}
-use Rattle.qt_wording.specs.Spelling.{IsAmong, IsSpelled, IsSpelledAs}
+use Rattle.qt_wording.specs.Spelling.{IsSpelled}
+use Rattle.qt_wording.proofs.Tables.{among, texts_of, text_spelled}
 use Rattle.qt_extent.proofs.Costs.{Fit}
 use Rattle.qt_extent.proofs.Combinators.{Setting, Pays, Of, pays_one, pays_operator, pays_tree, pays_words}
 use Rattle.qt_words.specs.Literals.{integer_of, bits_of, bit_count, inside_quotes}
 use Rattle.qt_print.specs.Expressions.{operator_text, sign_text}
 
 -- ---- words of a fixed spelling
-
-abbrev same : List ℕ → List ℕ → Bool
-same [] [] = true
-same [] (y ∷ ys) = false
-same (x ∷ xs) [] = false
-same (x ∷ xs) (y ∷ ys) = eqb x y && same xs ys
-
-same_is : (xs ys : List ℕ) → same xs ys ≡ true → xs ≡ ys
-same_is [] [] h = refl
-same_is [] (y ∷ ys) h = cc h
-same_is (x ∷ xs) [] h = cc h
-same_is (x ∷ xs) (y ∷ ys) h = ap (λ t. t ∷ xs) (eqb_same x y (and_left (eqb x y) (same xs ys) h)) ∙ ap (λ t. y ∷ t) (same_is xs ys (and_right (eqb x y) (same xs ys) h))
-
-abbrev among : List (List ℕ) → List ℕ → Bool
-among [] text = false
-among (first ∷ others) text = same text first || among others text
-
-among_is : (all : List (List ℕ)) (text : List ℕ) → among all text ≡ true → IsAmong all text
-among_is [] text h = cc h
-among_is (x ∷ xs) text h = elim (or_cases (same text x) (among xs text) h) [ inl e ↦ inl (same_is text x e) | inr e ↦ inr (among_is xs text e) ]
-
--- the texts of a role that has few
-abbrev texts_of : Role → List (List ℕ)
-texts_of r.Constant = codes "pi" ∷ codes "tau" ∷ []
-texts_of r.Keyword = reserved_words
-texts_of r.Head = reserved_words
-texts_of r.Else = reserved_words
-texts_of r.In = reserved_words
-texts_of r.Operator = symbols
-texts_of r.Sign = codes "!" ∷ codes "~" ∷ codes "-" ∷ []
-texts_of r.Comma = codes "," ∷ []
-texts_of r.Colon = codes ":" ∷ []
-texts_of r.Semicolon = codes ";" ∷ []
-texts_of r.Opening = codes "(" ∷ codes "[" ∷ codes "{" ∷ []
-texts_of r.ClosingParenthesis = codes ")" ∷ []
-texts_of r.ClosingBracket = codes "]" ∷ []
-texts_of r.ClosingBrace = codes "}" ∷ []
-texts_of r.BodyStart = codes "{" ∷ []
-texts_of r.BodyEnd = codes "}" ∷ []
-texts_of _ = []
-
-text_spelled : (role : Role) (text : List ℕ) → among (texts_of role) text ≡ true → IsSpelledAs role text
-text_spelled r.Name text h = cc h
-text_spelled r.Integer text h = cc h
-text_spelled r.Decimal text h = cc h
-text_spelled r.Text text h = cc h
-text_spelled r.Constant text h = among_is (texts_of r.Constant) text h
-text_spelled r.Keyword text h = among_is reserved_words text h
-text_spelled r.Head text h = among_is reserved_words text h
-text_spelled r.Else text h = among_is reserved_words text h
-text_spelled r.In text h = among_is reserved_words text h
-text_spelled r.Operator text h = among_is symbols text h
-text_spelled r.Sign text h = among_is (texts_of r.Sign) text h
-text_spelled r.Comma text h = among_is (texts_of r.Comma) text h
-text_spelled r.Colon text h = among_is (texts_of r.Colon) text h
-text_spelled r.Semicolon text h = among_is (texts_of r.Semicolon) text h
-text_spelled r.Opening text h = among_is (texts_of r.Opening) text h
-text_spelled r.ClosingParenthesis text h = among_is (texts_of r.ClosingParenthesis) text h
-text_spelled r.ClosingBracket text h = among_is (texts_of r.ClosingBracket) text h
-text_spelled r.ClosingBrace text h = among_is (texts_of r.ClosingBrace) text h
-text_spelled r.BodyStart text h = among_is (texts_of r.BodyStart) text h
-text_spelled r.BodyEnd text h = among_is (texts_of r.BodyEnd) text h
 
 -- a word that is no longer than 20 bytes for each byte of its token
 pub one_fits : (word : Word) (n : ℕ) → IsSpelled word → length word.text ≤ 20 * n → 1 ≤ n → Fit (word ∷ []) (500 * n)
