@@ -4,5 +4,6 @@
 //! a token: `specs/Spelling.antt` has its kind, its word in the grammar (`meaning`) and when its bytes are spelled as such a token;
 //! `specs/Written.antt` says when the tokens of a stream are printed words; `specs/Places.antt` has the tree without its places.
 //! The crates above prove with these definitions that the canonical text of a program is read as that program.
+//! `proofs/` has the lemmas that several of those crates cite: on the texts of each role, lists that grow, and forms without places.
 //! There is no code here.
 #![tactic(auto)]
