@@ -1,23 +1,16 @@
 ghost use Rattle.std.specs.Prelude.{◌≡◌, ◌^◌, ◌<◌, IsTrue, IfOk, unsigned_abs};
 ghost use Rattle.qt_value.specs.Types.{has_size, width_of};
-ghost use Rattle.qt_value.specs.Values.{datum_of};
-ghost use Rattle.qt_const.specs.Constants.{constant_of, answer_of, value_at, literal, digits, truth, whole_number, truth_of_constant};
+ghost use Rattle.qt_value.specs.declared.constant.ConstValue.TheVariants as form;
+ghost use Rattle.qt_const.specs.Constants.{value_at, literal, digits, truth, whole_number, truth_of_constant};
 ghost use Rattle.qt_const.specs.Refusals.{refusal_at};
 ghost use Rattle.qt_const.specs.declared.constant.NoValue.TheVariants as none;
 
-use qt_phase::phase::Phase;
 use qt_tree::label::Label;
 use qt_tree::place::Place;
 use qt_tree::refusal::{Cause, TextRefusal};
+use qt_value::constant::ConstValue;
 use qt_value::types::ValueType;
 use qt_value::value::Value;
-
-/// The value of a constant: a classical value, or a phase.
-#[derive(Clone, Copy, Debug, PartialEq, Eq)]
-pub enum ConstValue {
-    Value(Value),
-    Phase(Phase),
-}
 
 /// Why an expression has no constant value.
 #[derive(Debug, Drop, PartialEq, Eq)]
@@ -61,32 +54,41 @@ impl NoValue {
     }
 }
 
-impl ConstValue {
-    /// The number of a whole value.
-    pub fn number(self) -> Result<i128, ConstFault>
-        ensures value { result ≡ whole_number (constant_of self) }
-        ensures small { IfOk result (λ z. unsigned_abs z < 2 ^ 64) }
-    {
-        match self {
-            ConstValue::Value(value) if value.kind().is_whole() => Ok(value.number()),
-            _ => Err(ConstFault::Type),
-        }
+/// The number of a whole value.
+pub(crate) fn whole_number(constant: ConstValue) -> Result<i128, ConstFault>
+    ensures value { result ≡ whole_number constant }
+    ensures small { IfOk result (λ z. unsigned_abs z < 2 ^ 64) }
+{
+    match constant {
+        ConstValue::Value(value) => number_of(value),
+        ConstValue::Phase(_) => Err(ConstFault::Type),
     }
+}
 
-    /// Whether a whole value isn't 0.
-    pub fn truth(self) -> Result<bool, ConstFault>
-        ensures { result ≡ truth_of_constant (constant_of self) }
-    {
-        let number = self.number()?;
-        Ok(number != 0)
+fn number_of(value: Value) -> Result<i128, ConstFault>
+    ensures value { result ≡ whole_number (form.Value value) }
+    ensures small { IfOk result (λ z. unsigned_abs z < 2 ^ 64) }
+{
+    if value.kind().is_whole() {
+        Ok(value.number())
+    } else {
+        Err(ConstFault::Type)
     }
+}
+
+/// Whether a whole value isn't 0.
+pub(crate) fn truth_of(constant: ConstValue) -> Result<bool, ConstFault>
+    ensures { result ≡ truth_of_constant constant }
+{
+    let number = whole_number(constant)?;
+    Ok(number != 0)
 }
 
 /// The value of that type and those bits.
 pub(crate) fn sized(kind: ValueType, bits: u64) -> Value
     requires sized { IsTrue (has_size kind) }
     requires fits { bits < 2 ^ width_of kind }
-    ensures { datum_of result ≡ record { kind = kind; bits = bits } }
+    ensures { result ≡ record { kind = kind; bits = bits } }
 {
     Value::new(kind, bits).unwrap()
 }
@@ -95,14 +97,14 @@ pub(crate) fn sized(kind: ValueType, bits: u64) -> Value
 pub(crate) fn value_at(kind: ValueType, bits: u64) -> ConstValue
     requires sized { IsTrue (has_size kind) }
     requires fits { bits < 2 ^ width_of kind }
-    ensures { constant_of result ≡ value_at kind bits }
+    ensures { result ≡ value_at kind bits }
 {
     ConstValue::Value(sized(kind, bits))
 }
 
 /// A whole number as it is written.
 pub(crate) fn literal(number: u64) -> ConstValue
-    ensures { constant_of result ≡ literal number }
+    ensures { result ≡ literal number }
 {
     let kind = if number < 1 << 63 {
         ValueType::Int(64)
@@ -114,7 +116,7 @@ pub(crate) fn literal(number: u64) -> ConstValue
 
 /// A bit register as its digits are written.
 pub(crate) fn digits(bits: u64, length: u8) -> Result<ConstValue, ConstFault>
-    ensures { answer_of result ≡ digits bits length }
+    ensures { result ≡ digits bits length }
 {
     match Value::new(ValueType::Bit(length), bits) {
         Some(value) => Ok(ConstValue::Value(value)),
@@ -124,7 +126,7 @@ pub(crate) fn digits(bits: u64, length: u8) -> Result<ConstValue, ConstFault>
 
 /// A truth value.
 pub(crate) fn truth(holds: bool) -> ConstValue
-    ensures { constant_of result ≡ truth holds }
+    ensures { result ≡ truth holds }
 {
     value_at(ValueType::Bool, u64::from(holds))
 }

@@ -2,9 +2,9 @@ ghost use Rattle.std.specs.Prelude.{◌≡◌, ◌≤◌, [], ◌∷◌, ◌++�
 ghost use Rattle.std.specs.Option.{option_copied};
 ghost use Rattle.qt_const.specs.Names.{known_of};
 
-use crate::constant::ConstValue;
 use qt_tree::label::Label;
 use qt_tree::lengths::Lengths;
+use qt_value::constant::ConstValue;
 use std::alloc::{AllocError, Global};
 use std::marker::Model;
 

@@ -5,7 +5,6 @@ mod indexes;
 mod operators;
 mod phases;
 
-use crate::constant::ConstValue;
 use crate::consts::{Consts, Known};
 use crate::value::const_value;
 use qt_phase::phase::Phase;
@@ -14,6 +13,7 @@ use qt_tree::label::Label;
 use qt_tree::lengths::Lengths;
 use qt_tree::place::Place;
 use qt_tree::refusal::{Cause, TextRefusal};
+use qt_value::constant::ConstValue;
 use qt_value::types::ValueType;
 use qt_value::value::Value;
 use sqlite_items::{Boxed, Items};

@@ -2,13 +2,13 @@ ghost use Rattle.std.specs.Prelude.{◌≡◌, ◌<◌, ◌≤◌, ◌^◌, Ok, 
 ghost use Rattle.std.specs.Option.{option_copied};
 ghost use Rattle.qt_tree.specs.declared.expression.Expr.TheVariants as form;
 ghost use Rattle.qt_value.specs.Types.{has_size};
-ghost use Rattle.qt_const.specs.Constants.{constant_of, next};
+ghost use Rattle.qt_const.specs.Constants.{next};
 ghost use Rattle.qt_const.specs.Refusals.{Gives, GivesPart, RefusesAt};
 ghost use Rattle.qt_const.specs.Value.{counted, in_brackets, index_reading, indexed, logical_of, number_in, operated, range_reading, reading_of, rotated, size_in, slice_or_all, type_reading, value_of, values_in};
 ghost use Rattle.qt_const.specs.declared.mode.Mode.TheVariants as mode;
 
 use crate::casts::{cast_to, size_or};
-use crate::constant::{ConstFault, ConstValue, NoValue, digits, literal, truth};
+use crate::constant::{ConstFault, NoValue, digits, literal, truth};
 use crate::consts::{Consts, Known};
 use crate::mode::{Builtin, Mode};
 use crate::names::{called, named, unknown};
@@ -23,6 +23,7 @@ use qt_tree::expression::{BinaryOp, Expr, Index, Range, Scalar};
 use qt_tree::label::Label;
 use qt_tree::place::Place;
 use qt_tree::refusal::TextRefusal;
+use qt_value::constant::ConstValue;
 use qt_value::operators::{Op, UnaryOp};
 use qt_value::types::ValueType;
 use sqlite_items::Items;
@@ -35,7 +36,7 @@ pub fn const_value(
     consts: &Consts,
     place: Place,
 ) -> Result<ConstValue, TextRefusal>
-    ensures value { IfOk result (λ v. value_of consts.now mode.Plain expr.now ≡ Ok (constant_of v)) }
+    ensures value { IfOk result (λ v. value_of consts.now mode.Plain expr.now ≡ Ok v) }
     ensures refusal { IfErr result (RefusesAt place (value_of consts.now mode.Plain expr.now)) }
 {
     match value_of(alloc, consts, Mode::Plain, expr) {
@@ -51,7 +52,7 @@ pub fn exponent_value(
     consts: &Consts,
     place: Place,
 ) -> Result<ConstValue, TextRefusal>
-    ensures value { IfOk result (λ v. value_of consts.now mode.Exact expr.now ≡ Ok (constant_of v)) }
+    ensures value { IfOk result (λ v. value_of consts.now mode.Exact expr.now ≡ Ok v) }
     ensures refusal { IfErr result (RefusesAt place (value_of consts.now mode.Exact expr.now)) }
 {
     match value_of(alloc, consts, Mode::Exact, expr) {
@@ -119,7 +120,7 @@ fn in_brackets(
     brackets: &[Items<Index>],
     value: ConstValue,
 ) -> Result<ConstValue, NoValue>
-    ensures { Gives (in_brackets mode (map (map (index_reading consts.now)) brackets.now) (constant_of value)) result }
+    ensures { Gives (in_brackets mode (map (map (index_reading consts.now)) brackets.now) value) result }
 {
     match brackets {
         [] => Ok(value),
@@ -138,7 +139,7 @@ fn indexed(
     indexes: &[Index],
     value: ConstValue,
 ) -> Result<ConstValue, NoValue>
-    ensures { Gives (indexed mode (map (index_reading consts.now) indexes.now) (constant_of value)) result }
+    ensures { Gives (indexed mode (map (index_reading consts.now) indexes.now) value) result }
 {
     match indexes {
         [] => Ok(value),
@@ -157,7 +158,7 @@ fn at_index(
     index: &Index,
     value: ConstValue,
 ) -> Result<ConstValue, NoValue>
-    ensures { Gives (index_reading consts.now index.now mode (constant_of value)) result }
+    ensures { Gives (index_reading consts.now index.now mode value) result }
 {
     match index {
         Index::At { place } => {
@@ -177,7 +178,7 @@ fn slice_value(
     range: &Range,
     value: ConstValue,
 ) -> Result<ConstValue, NoValue>
-    ensures { Gives (range_reading consts.now range.now mode (constant_of value)) result }
+    ensures { Gives (range_reading consts.now range.now mode value) result }
 {
     let start = number_in(alloc, consts, mode, range.start.as_ref())?;
     let step = number_in(alloc, consts, mode, range.step.as_ref())?;
@@ -195,7 +196,7 @@ fn slice_to(
     step: Option<i128>,
     end: Option<&Expr>,
 ) -> Result<ConstValue, NoValue>
-    ensures { Gives (next (number_in mode (option_map (reading_of consts.now) (option_copied end.entry))) (slice_or_all (constant_of value) start step)) result }
+    ensures { Gives (next (number_in mode (option_map (reading_of consts.now) (option_copied end.entry))) (slice_or_all value start step)) result }
 {
     let end = number_in(alloc, consts, mode, end)?;
     given(slice_or_all(value, start, step, end))

@@ -1,5 +1,4 @@
 ghost use Rattle.std.specs.Prelude.{◌≡◌, IfSome};
-ghost use Rattle.qt_value.specs.Values.{kind_of};
 
 use crate::words::{binary_operator, unary_operator, value_type};
 use qt_value::operators::{Op, UnaryOp};
@@ -17,7 +16,7 @@ pub struct Operand {
 impl Operand {
     /// None where the type has no size, or the bits don't fit it.
     pub fn value(self) -> Option<Value>
-        ensures { IfSome result (λ v. kind_of v ≡ self.kind) }
+        ensures { IfSome result (λ v. v.kind ≡ self.kind) }
     {
         Value::new(self.kind, self.bits)
     }
