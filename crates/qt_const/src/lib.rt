@@ -2,8 +2,8 @@
 //!
 //! A [`qt_value::constant::ConstValue`] is a classical value, or a phase, which is an exact angle that is no value. [`consts::Consts`] says
 //! what is known of names: contracts see it as a list of entries, of which the last of a name counts. [`value::const_value`] gives the value
-//! of an expression, or the first refusal from left to right: a name that isn't in scope, a type that doesn't fit, or what isn't
-//! constant, exact or in range.
+//! of an expression, or the first refusal from left to right: a name that isn't in scope, a type that doesn't fit, a division by 0, or what
+//! isn't constant, exact or in range.
 //! `specs/Value.antt` is the meaning of an expression by cases on its tree.
 //!
 //! The typing of a program calls it for sizes, constants, indexes, exponents and the angles of gates.
