@@ -7,6 +7,7 @@ mod phases;
 
 use crate::consts::{Consts, Known};
 use crate::value::const_value;
+use qt_outside::faults::OutOfMemory;
 use qt_phase::phase::Phase;
 use qt_tree::expression::{BinaryOp, Expr, Index, Range, Scalar, UnaryOperator};
 use qt_tree::label::Label;
@@ -17,11 +18,11 @@ use qt_value::constant::ConstValue;
 use qt_value::types::ValueType;
 use qt_value::value::Value;
 use sqlite_items::{Boxed, Items};
-use std::alloc::{AllocError, Global};
+use std::alloc::Global;
 use std::process::Abort;
 use std::test::Fail;
 
-type Built = Result<Expr, AllocError>;
+type Built = Result<Expr, OutOfMemory>;
 
 const HERE: Place = Place {
     file: 0,

@@ -4,6 +4,7 @@ ghost use Rattle.std.specs.Prelude.{◌≡◌};
 ghost use Rattle.qt_expr.specs.Refusals.{told};
 
 use qt_grammar::refusal::Refusal;
+use qt_outside::faults;
 use qt_tree::place::Place;
 use qt_tree::refusal::Feature;
 use qt_words::stream::TokenStream;
@@ -20,6 +21,17 @@ pub enum ParseRefusal {
     NotInProfile(Place, Feature),
     /// No memory was left.
     OutOfMemory,
+}
+
+impl From<faults::OutOfMemory> for ParseRefusal {
+    ghost use Rattle.std.specs.Prelude.{◌≡◌};
+    ghost use Rattle.qt_expr.specs.declared.refusal.ParseRefusal.TheVariants.{OutOfMemory};
+
+    ghost from_gives = { λ _ e. e ≡ OutOfMemory };
+
+    fn from(_: faults::OutOfMemory) -> ParseRefusal {
+        ParseRefusal::OutOfMemory
+    }
 }
 
 impl From<AllocError> for ParseRefusal {

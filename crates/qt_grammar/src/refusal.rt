@@ -1,5 +1,6 @@
 //! Why no tree is read.
 
+use qt_outside::faults;
 use std::alloc::{AllocError, AllocFailed};
 
 /// Why a form isn't read, with the number of the token at fault: no tree has that token there, whatever the limits; the
@@ -9,6 +10,17 @@ pub enum Refusal {
     Syntax(usize),
     Nest(usize),
     OutOfMemory,
+}
+
+impl From<faults::OutOfMemory> for Refusal {
+    ghost use Rattle.std.specs.Prelude.{◌≡◌};
+    ghost use Rattle.qt_grammar.specs.declared.refusal.Refusal.TheVariants.{OutOfMemory};
+
+    ghost from_gives = { λ _ e. e ≡ OutOfMemory };
+
+    fn from(_: faults::OutOfMemory) -> Refusal {
+        Refusal::OutOfMemory
+    }
 }
 
 impl From<AllocError> for Refusal {

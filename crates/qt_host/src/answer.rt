@@ -1,15 +1,15 @@
 //! The text that is asked for, and the answer that it comes to.
 
-ghost use Rattle.std.specs.Prelude.{◌≡◌, ◌≢◌, ℕ, List, map, take, string_bytes, Some, None, Option, IfOk, OnOk, MatchOption, MatchResult};
-ghost use Rattle.qt_outside.specs.Causes.{Texts, text_of, Rose};
-ghost use Rattle.qt_read.specs.Reading.{IsTextOfProgram, IsRefused};
-ghost use Rattle.qt_host.specs.Steps.{IsReportOf, IsAnswer, HasNoSource, HasNoAnswer, HasNoAnswerAt, HasNoText, HasShelfCause};
+ghost use Rattle.std.specs.Prelude.{◌≡◌, take, string_bytes, Some, IfOk, MatchResult};
+ghost use Rattle.qt_outside.specs.Causes.{Texts, text_of};
+ghost use Rattle.qt_read.specs.Reading.{IsTextOfProgram};
+ghost use Rattle.qt_host.specs.Steps.{IsAnswer, HasNoSource, HasNoAnswer, HasNoAnswerAt, HasNoText, HasShelfCause};
 ghost use Rattle.qt_host.specs.declared.request.Mode.TheVariants as modes;
 
 use crate::refusal::HostRefusal;
 use crate::request::Mode;
 use qt_first::read::read as read_first;
-use qt_outside::faults::FetchFault;
+use qt_outside::faults::{FetchFault, OutOfMemory};
 use qt_outside::shelf::Shelf;
 use qt_print::print;
 use qt_read::read::read;
@@ -22,6 +22,16 @@ use std::alloc::{AllocError, Global};
 
 /// One more byte than the longest text that is read, so that a longer one is seen to be too long.
 const MOST: usize = 1048577;
+
+impl From<OutOfMemory> for HostRefusal {
+    ghost use Rattle.qt_host.specs.declared.refusal.HostRefusal.TheVariants.{OutOfMemory};
+
+    ghost from_gives = { λ _ e. e ≡ OutOfMemory };
+
+    fn from(_error: OutOfMemory) -> HostRefusal {
+        HostRefusal::OutOfMemory
+    }
+}
 
 impl From<AllocError> for HostRefusal {
     ghost use Rattle.qt_host.specs.declared.refusal.HostRefusal.TheVariants.{OutOfMemory};
@@ -61,37 +71,20 @@ fn source_of(alloc: Global, name: &str, text: &[u8]) -> Result<Program, HostRefu
 fn canonical_of(alloc: Global, name: &str, text: &[u8]) -> Result<String, HostRefusal>
     ensures { MatchResult result (λ answer. IsAnswer modes.Format text.now (string_bytes answer)) (HasNoAnswer modes.Format name.now text.now) }
 {
-    let program = match source_of(alloc, name, text) {
-        Ok(program) => program,
-        Err(refusal) => return Err(refusal),
-    };
-    match print(alloc, &program) {
-        Ok(answer) => Ok(answer),
-        Err(_) => Err(HostRefusal::OutOfMemory),
-    }
+    let program = source_of(alloc, name, text)?;
+    Ok(print(alloc, &program)?)
 }
 
 /// The report of the program of a text, if it has the first form.
 fn report_of(alloc: Global, name: &str, text: &[u8]) -> Result<String, HostRefusal>
     ensures { MatchResult result (λ answer. IsAnswer modes.Run text.now (string_bytes answer)) (HasNoAnswer modes.Run name.now text.now) }
 {
-    let _source = match source_of(alloc, name, text) {
-        Ok(program) => program,
-        Err(refusal) => return Err(refusal),
-    };
-    let Ok(found) = read_first(alloc, text) else {
-        return Err(HostRefusal::OutOfMemory);
-    };
-    let Some(program) = found else {
+    let _source = source_of(alloc, name, text)?;
+    let Some(program) = read_first(alloc, text)? else {
         return Err(HostRefusal::Early(Label::new(alloc, name)?));
     };
-    let Ok(distribution) = run(alloc, &program) else {
-        return Err(HostRefusal::OutOfMemory);
-    };
-    match text_report(alloc, &distribution) {
-        Ok(report) => Ok(report),
-        Err(_) => Err(HostRefusal::OutOfMemory),
-    }
+    let distribution = run(alloc, &program)?;
+    Ok(text_report(alloc, &distribution)?)
 }
 
 /// The answer to a mode for a text.
@@ -114,10 +107,7 @@ pub fn answer_at<S: Shelf>(
     ensures answer { (texts : Texts) → S.holds shelf.old ≡ Some texts → MatchResult result (λ answer. IsAnswer mode (text_of texts name.now) (string_bytes answer)) (HasNoAnswerAt mode name.now (text_of texts name.now)) }
     ensures shelf { MatchResult result (λ _. S.faults shelf.new ≡ S.faults shelf.old) (HasShelfCause (S.faults shelf.old) (S.faults shelf.new) (S.failed shelf.new) name.now) }
 {
-    let text = match fetched(alloc, shelf, name) {
-        Ok(text) => text,
-        Err(refusal) => return Err(refusal),
-    };
+    let text = fetched(alloc, shelf, name)?;
     answer_of(alloc, mode, name, text.as_slice())
 }
 

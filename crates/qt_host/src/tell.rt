@@ -1,13 +1,14 @@
 //! The line that tells why there is no answer.
 
-ghost use Rattle.std.specs.Prelude.{◌≡◌, ℕ, List, [], ◌∷◌, ◌++◌, ◌<◌, ◌≤◌, ◌⊎◌, length, map, string_bytes, codes, IfOk};
-ghost use Rattle.qt_host.specs.Lines.{form_line, shelf_line, unserved_line, memory_line};
+ghost use Rattle.std.specs.Prelude.{◌≡◌, ℕ, List, [], ◌∷◌, ◌++◌, ◌⊎◌, map, string_bytes, codes, IfOk};
+ghost use Rattle.qt_host.specs.Lines.{unserved_line, memory_line};
 ghost use Rattle.qt_host.specs.Puts.{seen, PutsLine};
 ghost use Rattle.qt_read.specs.Lines as texts;
 ghost use Rattle.qt_host.specs.Steps as steps;
 ghost use Rattle.qt_host.specs.Steps.{IsTold, line_of};
 
 use crate::refusal::HostRefusal;
+use qt_outside::faults::OutOfMemory;
 use qt_outside::sink::Sink;
 use qt_read::line::refusal_line;
 use qt_tree::label::Label;
@@ -70,7 +71,7 @@ pub fn tell_words<E: Sink>(alloc: Global, words: &[String], err: &mut E) -> u8
 }
 
 /// A word, a name and another word, as one line.
-fn line_with(alloc: Global, before: &str, name: &Label, behind: &str) -> Result<String, AllocError>
+fn line_with(alloc: Global, before: &str, name: &Label, behind: &str) -> Result<String, OutOfMemory>
     ensures { IfOk result (λ line. string_bytes line ≡ before.now ++ name.now ++ behind.now) }
 {
     let mut line = String::from_str(alloc, before)?;
@@ -80,7 +81,7 @@ fn line_with(alloc: Global, before: &str, name: &Label, behind: &str) -> Result<
 }
 
 /// The line of a refused text.
-fn text_line(alloc: Global, name: &str, refusal: &TextRefusal) -> Result<String, AllocError>
+fn text_line(alloc: Global, name: &str, refusal: &TextRefusal) -> Result<String, OutOfMemory>
     ensures { IfOk result (λ line. string_bytes line ≡ texts.refusal_line (name.now ∷ []) refusal.now) }
 {
     let names = [Label::new(alloc, name)?];
@@ -88,14 +89,14 @@ fn text_line(alloc: Global, name: &str, refusal: &TextRefusal) -> Result<String,
 }
 
 /// The line of a refusal.
-fn line_of(alloc: Global, name: &str, refusal: &HostRefusal) -> Result<String, AllocError>
+fn line_of(alloc: Global, name: &str, refusal: &HostRefusal) -> Result<String, OutOfMemory>
     ensures { IfOk result (λ line. string_bytes line ≡ line_of name.now refusal.now) }
 {
     match refusal {
         HostRefusal::Shelf(of) => line_with(alloc, "S1 shelf ", of, "\n"),
         HostRefusal::Early(of) => line_with(alloc, "E0 ", of, " form\n"),
         HostRefusal::Text(reason) => text_line(alloc, name, reason),
-        HostRefusal::OutOfMemory => String::from_str(alloc, "M1 memory\n"),
+        HostRefusal::OutOfMemory => Ok(String::from_str(alloc, "M1 memory\n")?),
     }
 }
 

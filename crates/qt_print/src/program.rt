@@ -1,6 +1,6 @@
 //! Programs: the version and the items, one after another.
 
-ghost use Rattle.std.specs.Prelude.{◌≡◌, ◌++◌, map, IfOk, OnOk};
+ghost use Rattle.std.specs.Prelude.{◌≡◌, map, IfOk, OnOk};
 ghost use Rattle.std.specs.String.{string_bytes};
 ghost use Rattle.qt_print.specs.Words as words;
 ghost use Rattle.qt_print.specs.Expressions as expressions;
@@ -16,6 +16,7 @@ use crate::role::Role;
 use crate::statement::{
     close_body, finish, open_body, put_body, put_gate_call, put_register, put_size, put_statement,
 };
+use qt_outside::faults::OutOfMemory;
 use qt_tree::expression::{Expr, Scalar};
 use qt_tree::label::Label;
 use qt_tree::program::{
@@ -27,7 +28,7 @@ use std::alloc::{AllocError, Global};
 
 /// The canonical text of a program. A program without version and items has the empty text.
 #[tactic(auto, using(crate::proofs::Texts::printed))]
-pub fn print(alloc: Global, program: &Program) -> Result<String, AllocError>
+pub fn print(alloc: Global, program: &Program) -> Result<String, OutOfMemory>
     ensures { IfOk result (λ text. string_bytes text ≡ canonical program.now) }
 {
     let mut page = Page::new(alloc);

@@ -1,9 +1,10 @@
 //! The lines that tell why a text, a program or its settings are refused.
 
-ghost use Rattle.std.specs.Prelude.{◌≡◌, ◌++◌, codes, IfOk, OnOk};
+ghost use Rattle.std.specs.Prelude.{◌≡◌, ◌++◌, IfOk, OnOk};
 ghost use Rattle.std.specs.String.{string_bytes};
-ghost use Rattle.qt_read.specs.Lines.{name_of_text, place_text, placed, refusal_words, refusal_line};
+ghost use Rattle.qt_read.specs.Lines.{name_of_text, placed, refusal_words, refusal_line};
 
+use qt_outside::faults::OutOfMemory;
 use qt_tree::label::Label;
 use qt_tree::place::Place;
 use qt_tree::refusal::TextRefusal;
@@ -15,7 +16,7 @@ pub fn refusal_line(
     alloc: Global,
     names: &[Label],
     refusal: &TextRefusal,
-) -> Result<String, AllocError>
+) -> Result<String, OutOfMemory>
     ensures { IfOk result (λ line. string_bytes line ≡ refusal_line names.now refusal.now) }
 {
     let mut line = String::new(alloc);

@@ -7,11 +7,18 @@ ghost use Rattle.qt_report.specs.Report.{binary_digits, chance_line, fraction, o
 
 use crate::distribution::{Chance, Distribution};
 use crate::register::Register;
+use qt_outside::faults::OutOfMemory;
 use qt_root2::mass::Reduced;
 use std::alloc::{AllocError, Global};
 
 /// A probability as `(a+br)/2^k`, where `r` stands for √2.
-pub fn fraction_text(alloc: Global, of: Reduced) -> Result<String, AllocError>
+pub fn fraction_text(alloc: Global, of: Reduced) -> Result<String, OutOfMemory>
+    ensures { IfOk result (λ text. string_bytes text ≡ fraction (real_of_reduced of)) }
+{
+    Ok(written(alloc, of)?)
+}
+
+fn written(alloc: Global, of: Reduced) -> Result<String, AllocError>
     ensures { IfOk result (λ text. string_bytes text ≡ fraction (real_of_reduced of)) }
 {
     let Reduced { a, b, k } = of;
@@ -27,7 +34,7 @@ fn sign(of: i128) -> &'static str
 }
 
 /// A line for each output value in the order of the items, and the line of the total.
-pub fn text_report(alloc: Global, of: &Distribution) -> Result<String, AllocError>
+pub fn text_report(alloc: Global, of: &Distribution) -> Result<String, OutOfMemory>
     ensures { IfOk result (λ text. string_bytes text ≡ report_text of.now) }
 {
     let mut text = String::new(alloc);
@@ -46,7 +53,7 @@ fn push_chance(
     text: &mut String,
     layout: &[Register],
     chance: &Chance,
-) -> Result<(), AllocError>
+) -> Result<(), OutOfMemory>
     ensures { OnOk result (string_bytes text.new ≡ string_bytes text.old ++ chance_line layout.now chance.now) }
 {
     push_output(text, layout, chance.output.values())?;

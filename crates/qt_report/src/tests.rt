@@ -6,6 +6,7 @@ ghost use Rattle.qt_report.specs.Report.{total_of};
 use crate::distribution::{Chance, Distribution, Output};
 use crate::register::Register;
 use crate::report::{fraction_text, text_report};
+use qt_outside::faults::OutOfMemory;
 use qt_root2::mass::Reduced;
 use std::alloc::{AllocError, Global};
 use std::test::Fail;
@@ -41,7 +42,7 @@ fn report_of(
     alloc: Global,
     registers: &[(&str, u32)],
     chances: Vec<Chance>,
-) -> Result<String, AllocError>
+) -> Result<String, OutOfMemory>
     requires { total_of chances.items ≡ one_real }
 {
     let layout = layout_of(alloc, registers)?;
@@ -53,14 +54,14 @@ fn report_of_one(
     alloc: Global,
     registers: &[(&str, u32)],
     values: &[u64],
-) -> Result<String, AllocError> {
+) -> Result<String, OutOfMemory> {
     let output = output_of(alloc, values)?;
     let chances = vec![in alloc; Chance { output, of: ONE }]?;
     report_of(alloc, registers, chances)
 }
 
 // The report of one bit with both its values.
-fn report_of_both(alloc: Global, zero: Reduced, one: Reduced) -> Result<String, AllocError>
+fn report_of_both(alloc: Global, zero: Reduced, one: Reduced) -> Result<String, OutOfMemory>
     requires { plus_real (real_of_reduced zero) (plus_real (real_of_reduced one) zero_real) ≡ one_real }
 {
     let first = output_of(alloc, &[0])?;

@@ -5,8 +5,9 @@ use crate::place::Place;
 use crate::program::{Item, Program};
 use crate::refusal::{Cause, Feature, TextRefusal};
 use crate::statement::{CalledGate, GateCall, Operand, Statement, StatementForm};
+use qt_outside::faults::OutOfMemory;
 use sqlite_items::{Boxed, Items};
-use std::alloc::{AllocError, Global};
+use std::alloc::Global;
 use std::test::Fail;
 
 fn place(file: u16, line: u32, column: u32) -> Place {
@@ -14,21 +15,21 @@ fn place(file: u16, line: u32, column: u32) -> Place {
 }
 
 /// The name alone, as an expression.
-fn named(alloc: Global, name: &str) -> Result<Expr, AllocError> {
+fn named(alloc: Global, name: &str) -> Result<Expr, OutOfMemory> {
     Ok(Expr::Name {
         name: Label::new(alloc, name)?,
         brackets: Items::new(alloc),
     })
 }
 
-fn negated(alloc: Global, operand: Expr) -> Result<Expr, AllocError> {
+fn negated(alloc: Global, operand: Expr) -> Result<Expr, OutOfMemory> {
     Ok(Expr::Unary {
         operator: UnaryOperator::Not,
         operand: Boxed::new(alloc, operand)?,
     })
 }
 
-fn operands(alloc: Global, name: &str) -> Result<Items<Operand>, AllocError> {
+fn operands(alloc: Global, name: &str) -> Result<Items<Operand>, OutOfMemory> {
     let mut operands = Items::new(alloc);
     operands.push(Operand {
         name: Label::new(alloc, name)?,
@@ -38,7 +39,7 @@ fn operands(alloc: Global, name: &str) -> Result<Items<Operand>, AllocError> {
 }
 
 /// `x q;`
-fn gate_call(alloc: Global) -> Result<StatementForm, AllocError> {
+fn gate_call(alloc: Global) -> Result<StatementForm, OutOfMemory> {
     let operands = operands(alloc, "q")?;
     let name = Label::new(alloc, "x")?;
     let call = GateCall {
@@ -53,7 +54,7 @@ fn gate_call(alloc: Global) -> Result<StatementForm, AllocError> {
 }
 
 /// `if (!b) x q;`
-fn conditional(alloc: Global) -> Result<StatementForm, AllocError> {
+fn conditional(alloc: Global) -> Result<StatementForm, OutOfMemory> {
     let mut body = Items::new(alloc);
     body.push(Statement {
         place: place(0, 2, 3),

@@ -11,6 +11,7 @@ use crate::literal;
 use crate::spelling::word_of;
 use crate::word::Word;
 use qt_lex::tokens::Token;
+use qt_outside::faults::OutOfMemory;
 use qt_tree::place::Place;
 use std::alloc::{AllocError, Global};
 use std::marker::Model;
@@ -72,7 +73,7 @@ impl<'a> TokenStream<'a> {
         alloc: Global,
         text: &'a str,
         tokens: &'a [Token],
-    ) -> Result<TokenStream<'a>, AllocError>
+    ) -> Result<TokenStream<'a>, OutOfMemory>
         ensures { IfOk result (λ made. made ≡ terminals text.now tokens.now) }
     {
         let words = words_of(alloc, text, tokens)?;

@@ -5,7 +5,7 @@ use Rattle.std.specs.String.{string_bytes}
 use Rattle.std.specs.Int.RustNames.{unsigned_abs}
 use Rattle.qt_root2.specs.Masses.{real_of_reduced}
 use Rattle.qt_report.specs.Report.{fraction, sign}
-use Rattle.qt_report.proofs.report.fraction_text.Goals as goal
+use Rattle.qt_report.proofs.report.written.Goals as goal
 
 -- what the format writes, at the signed numbers as they were passed
 pub returns : goal.returns
