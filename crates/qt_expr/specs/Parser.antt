@@ -15,7 +15,7 @@ use Rattle.qt_grammar.specs.Form.{Form, operator, empty, as_tree, then_, maybe, 
 use Rattle.qt_grammar.specs.Lookahead.{first}
 use Rattle.qt_grammar.specs.Outcome.{Outcome}
 pub use Rattle.qt_grammar.specs.Outcome.{Says}
-use Rattle.qt_grammar.specs.Reading.{run, run_to, rest_of}
+use Rattle.qt_grammar.specs.Reading.{language_limits, run, run_to, rest_of}
 use Rattle.qt_grammar.specs.Language as g
 
 -- the place behind a token, where the outcome is that token and that place
@@ -35,7 +35,7 @@ Adds before found (Err e) = found ≡ Err e
 
 -- how many operators an expression has at most that stands in no other
 abbrev pub cap : ℕ
-cap = 256
+cap = language_limits.operators
 
 module _ (tokens : List Terminal) where
   abbrev pub named_to : ℕ → (n : Name) → Option ℕ → ℕ → Outcome (Value (sort n))

@@ -1,6 +1,8 @@
 //! An expression of a text.
 
+ghost use Rattle.std.specs.Prelude.{◌≤◌};
 ghost use Rattle.qt_words.specs.Terminals.{terminals};
+ghost use Rattle.qt_grammar.specs.Reading.{language_limits};
 ghost use Rattle.qt_expr.specs.Refusals.{AnswersExpression};
 
 use crate::expression::expression;
@@ -14,17 +16,18 @@ use std::alloc::Global;
 /// How many levels of nesting there are at most.
 const MOST_LEVELS: usize = 64;
 
-/// The expression that begins at a token, which has that depth; the refusals are by place.
+/// The expression that begins at a token, which has that depth, at most 64; the refusals are by place.
 fn expression_at(
     alloc: Global,
     tokens: &TokenStream<'_>,
     at: usize,
     depth: u32,
 ) -> Result<(Expr, usize), ParseRefusal>
+    requires { depth ≤ language_limits.levels }
     ensures { AnswersExpression tokens.now depth at result }
 {
     let nesting = Nesting {
-        levels: MOST_LEVELS.saturating_sub(depth as usize),
+        levels: MOST_LEVELS - depth as usize,
         outer: None,
     };
     match expression(alloc, tokens, nesting, at) {
@@ -34,10 +37,10 @@ fn expression_at(
 }
 
 /// The expression that begins at a token of a text, and the number of the token behind it; `depth` is the depth of the token at
-/// which it begins. The longest list of tokens from there on that opens an expression is read. Syntax or NotInProfile where that
-/// list isn't an expression, with the place of the token behind it; Nest where one of its tokens has a depth above 64, or is the
-/// 257th operator of an expression that stands in no other, with the first such token. An `@` is never at the beginning of a
-/// statement here, so that it is refused with Syntax.
+/// which it begins, at most 64. The longest list of tokens from there on that opens an expression is read. Syntax or NotInProfile
+/// where that list isn't an expression, with the place of the token behind it; Nest where one of its tokens has a depth above 64,
+/// or is the 257th operator of an expression that stands in no other, with the first such token. An `@` is never at the beginning
+/// of a statement here, so that it is refused with Syntax.
 pub fn parse_expr(
     alloc: Global,
     text: &str,
@@ -45,6 +48,7 @@ pub fn parse_expr(
     at: usize,
     depth: u32,
 ) -> Result<(Expr, usize), ParseRefusal>
+    requires { depth ≤ language_limits.levels }
     ensures { AnswersExpression (terminals text.now tokens.now) depth at result }
 {
     let stream = TokenStream::new(alloc, text, tokens)?;

@@ -58,6 +58,6 @@ pub record Limits : Type 0 where
 abbrev pub language_limits : Limits
 language_limits = record { levels = 64; operators = 256 }
 
--- the same for a form that itself stands at some depth
+-- the same for a form that itself stands at some depth, which is no more than the levels
 abbrev pub limits_at : ℕ → Limits
-limits_at depth = record { levels = 64 - depth; operators = 256 }
+limits_at depth = record { levels = language_limits.levels - depth; operators = language_limits.operators }

@@ -23,7 +23,7 @@ use std::alloc::{AllocError, Global};
 /// afterwards.
 #[tactic(auto, using(crate::proofs::Promises::begins, crate::proofs::Promises::never_begins))]
 fn could_begin(alloc: Global, tokens: &mut TokenStream<'_>, at: usize) -> Result<bool, AllocError>
-    requires { read_whole tokens.old 64 0 ≡ Err (Syntax at) }
+    requires { read_whole tokens.old language_limits.levels 0 ≡ Err (Syntax at) }
     ensures yes { IfOk result (λ found. found ≡ true → CouldBegin tokens.old at) }
     ensures no { IfOk result (λ found. found ≡ false → CouldBegin tokens.old at → ⊥) }
 {
@@ -38,7 +38,7 @@ fn could_begin(alloc: Global, tokens: &mut TokenStream<'_>, at: usize) -> Result
 /// Why the token is refused that no program has there.
 #[tactic(auto, using(crate::proofs::Promises::annotation, crate::proofs::Promises::no_annotation, crate::proofs::Promises::by_word))]
 fn stopped(alloc: Global, tokens: &mut TokenStream<'_>, at: usize) -> ParseRefusal
-    requires { read_whole tokens.old 64 0 ≡ Err (Syntax at) }
+    requires { read_whole tokens.old language_limits.levels 0 ≡ Err (Syntax at) }
     ensures { Refused tokens.old result }
 {
     let place = tokens.place(at);

@@ -4,6 +4,7 @@ ghost use Rattle.std.specs.Prelude.{◌≡◌, length, None};
 ghost use Rattle.qt_grammar.specs.Sorts.{item};
 ghost use Rattle.qt_grammar.specs.Language as g;
 ghost use Rattle.qt_grammar.specs.Outcome.{Says, Tells};
+ghost use Rattle.qt_grammar.specs.Reading.{language_limits};
 ghost use Rattle.qt_expr.specs.Parser.{rest_some};
 ghost use Rattle.qt_parse.specs.Parser.{read_statement_item, read_global, read_items, read_version_number, read_version, read_any_version, read_whole};
 
@@ -160,7 +161,7 @@ const LEVELS: usize = 64;
 /// `program = [ version ] { global }`, and then the end of the text.
 #[tactic(auto, unfolding(crate::specs::Parser::read_whole, crate::specs::Parser::read_items, crate::specs::Parser::read_any_version))]
 pub fn whole(alloc: Global, tokens: &TokenStream<'_>) -> Result<Program, Refusal>
-    ensures { Tells (read_whole tokens.now 64 0) result }
+    ensures { Tells (read_whole tokens.now language_limits.levels 0) result }
 {
     let (version, at) = any_version(alloc, tokens, 0)?;
     let (items, at) = items(alloc, tokens, LEVELS, at)?;
