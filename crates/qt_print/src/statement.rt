@@ -217,7 +217,7 @@ fn put_gate(page: &mut Page, gate: &CalledGate) -> Result<(), AllocError>
 
 /// A gate call.
 #[tactic(auto, using(crate::proofs::Puts::puts_both))]
-pub(crate) fn put_call(page: &mut Page, call: &GateCall) -> Result<(), AllocError>
+fn put_call(page: &mut Page, call: &GateCall) -> Result<(), AllocError>
     ensures { OnOk result (sheet_of page.new ≡ puts (sheet_of page.old) (spec.call_words call.now)) }
 {
     put_modifiers(page, call.modifiers.as_slice())?;
@@ -404,14 +404,12 @@ fn put_barrier(page: &mut Page, qubits: &[Operand]) -> Result<(), AllocError>
     finish(page)
 }
 
-/// A gate call.
+/// A gate call as a statement.
 #[tactic(auto, using(crate::proofs::Puts::puts_both))]
 pub(crate) fn put_gate_call(page: &mut Page, call: &GateCall) -> Result<(), AllocError>
     ensures { OnOk result (sheet_of page.new ≡ put_sentence (sheet_of page.old) (spec.call_words call.now)) }
 {
-    put_modifiers(page, call.modifiers.as_slice())?;
-    put_gate(page, &call.gate)?;
-    put_operands(page, call.operands.as_slice())?;
+    put_call(page, call)?;
     finish(page)
 }
 
