@@ -11,6 +11,7 @@ mod writer_sink;
 
 use file_shelf::FileShelf;
 use qt_host::host::host;
+use qt_host::tell::tell_want;
 use std::io;
 use std::process::ExitCode;
 use writer_sink::WriterSink;
@@ -25,11 +26,17 @@ fn words(rt: &HostRuntime) -> io::Result<Vec<String>> {
 }
 
 fn main(rt: HostRuntime) -> ExitCode {
-    // Words that can't be had whole are answered as words that ask for nothing that is served.
-    let words = words(&rt).unwrap_or(Vec::new(rt.alloc()));
     let (stdout, stderr) = (rt.stdout(), rt.stderr());
     let mut shelf = FileShelf::new(rt.alloc(), &rt);
     let mut out = WriterSink::new(io::writer(&stdout));
     let mut err = WriterSink::new(io::writer(&stderr));
+    let words = match words(&rt) {
+        Ok(words) => words,
+        Err(error) if error.kind() == io::ErrorKind::OutOfMemory => {
+            return ExitCode::from(tell_want(&mut err));
+        }
+        // Words that aren't UTF-8 are answered as words that ask for nothing that is served.
+        Err(_) => Vec::new(rt.alloc()),
+    };
     ExitCode::from(host(rt.alloc(), words.as_slice(), &mut shelf, &mut out, &mut err))
 }

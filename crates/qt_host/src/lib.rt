@@ -15,6 +15,6 @@ pub mod laws;
 mod lines;
 pub mod refusal;
 mod request;
-mod tell;
+pub mod tell;
 #[cfg(test)]
 mod tests;
