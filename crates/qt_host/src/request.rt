@@ -1,6 +1,6 @@
 //! What the words of a command line ask for.
 
-ghost use Rattle.std.specs.Prelude.{◌≡◌, List, ℕ, map, string_bytes, MatchOption};
+ghost use Rattle.std.specs.Prelude.{◌≡◌, map, string_bytes, MatchOption};
 ghost use Rattle.qt_host.specs.Said.{Asks, AreServed};
 ghost use Rattle.qt_host.specs.Steps.{mode_word, IsNoMode};
 

@@ -1,8 +1,7 @@
 //! The page that words are put on, one by one.
 
-ghost use Rattle.std.specs.Prelude.{◌≡◌, ◌++◌, if◌then◌else◌, [], ◌∷◌, OnOk, true};
+ghost use Rattle.std.specs.Prelude.{◌≡◌, ◌++◌, OnOk};
 ghost use Rattle.std.specs.String.{string_bytes};
-ghost use Rattle.qt_print.specs.Spacing as spacing;
 ghost use Rattle.qt_print.specs.Text as layout;
 ghost use Rattle.qt_print.specs.Words as words;
 ghost use Rattle.qt_print.specs.Page as sheets;

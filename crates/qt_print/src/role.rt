@@ -1,6 +1,6 @@
 //! What words are to their neighbours on a line.
 
-ghost use Rattle.std.specs.Prelude.{◌≡◌, ◌||◌};
+ghost use Rattle.std.specs.Prelude.{◌≡◌};
 ghost use Rattle.qt_print.specs.Spacing as spacing;
 
 /// What a word of the text is, as far as the space beside it goes.
