@@ -22,8 +22,7 @@ UNARY_OPERATORS = ["!", "~", "neg", "popcount"]
 
 BOOL = ("bool", 1)
 PHASE = ("phase", 0)
-# A bit register counts as a uint, so it has fewer widths.
-WIDTHS = {"bit": [1, 64], "int": [1, 63, 64], "uint": [1, 63, 64], "angle": [1, 31, 32]}
+WIDTHS = {"bit": [1, 63, 64], "int": [1, 63, 64], "uint": [1, 63, 64], "angle": [1, 31, 32]}
 TYPES = [BOOL, *[(name, n) for name, widths in WIDTHS.items() for n in widths]]
 # Types that no value has.
 NO_TYPES = [PHASE, ("bit", 0), ("bit", 65), ("int", 0), ("int", 65), ("uint", 0), ("uint", 65), ("angle", 0), ("angle", 33)]
