@@ -9,7 +9,7 @@ use crate::consts::{Consts, Known};
 use crate::value::const_value;
 use qt_outside::faults::OutOfMemory;
 use qt_phase::phase::Phase;
-use qt_tree::expression::{BinaryOp, Expr, Index, Range, Scalar, UnaryOperator};
+use qt_tree::expression::{Expr, Index, InfixOperator, PrefixOperator, Range, Scalar};
 use qt_tree::label::Label;
 use qt_tree::lengths::Lengths;
 use qt_tree::place::Place;
@@ -129,7 +129,7 @@ fn slice(
     indexed(alloc, text, indexes)
 }
 
-fn between(alloc: Global, operator: BinaryOp, left: Built, right: Built) -> Built {
+fn between(alloc: Global, operator: InfixOperator, left: Built, right: Built) -> Built {
     Ok(Expr::Binary {
         operator,
         left: Boxed::new(alloc, left?)?,
@@ -138,14 +138,14 @@ fn between(alloc: Global, operator: BinaryOp, left: Built, right: Built) -> Buil
 }
 
 fn over(alloc: Global, left: Built, right: Built) -> Built {
-    between(alloc, BinaryOp::Div, left, right)
+    between(alloc, InfixOperator::Div, left, right)
 }
 
 fn by_zero(alloc: Global) -> Built {
     over(alloc, whole(1), whole(0))
 }
 
-fn before(alloc: Global, operator: UnaryOperator, operand: Built) -> Built {
+fn before(alloc: Global, operator: PrefixOperator, operand: Built) -> Built {
     Ok(Expr::Unary {
         operator,
         operand: Boxed::new(alloc, operand?)?,

@@ -5,13 +5,13 @@ use Rattle.qt_tree.specs.declared.expression.Expr.{Expr}
 use Rattle.qt_tree.specs.declared.expression.Scalar.{Scalar}
 use Rattle.qt_tree.specs.declared.expression.Index.{Index}
 use Rattle.qt_tree.specs.declared.expression.Range.{Range}
-use Rattle.qt_words.specs.declared.word.Word.{Word}
-use Rattle.qt_words.specs.Words.{code}
-use Rattle.qt_words.specs.Terminals.{Terminal, stream}
+use Rattle.qt_terminals.specs.declared.terminal.Terminal.{Terminal}
+use Rattle.qt_terminals.specs.Alphabet.{code}
+use Rattle.qt_terminals.specs.Terminals.{PlacedTerminal, stream}
 use Rattle.qt_grammar.specs.declared.refusal.Refusal.{Refusal}
 use Rattle.qt_grammar.specs.declared.refusal.Refusal.TheVariants.{Syntax}
 use Rattle.qt_grammar.specs.Sorts.{Sort, Value, Name, sort, nothing, expr, index, range, range_tail, optional, any, unary, an_index, a_range, a_set, in_sizeof}
-use Rattle.qt_grammar.specs.Form.{Form, operator, empty, as_tree, then_, maybe, named, member, word_at}
+use Rattle.qt_grammar.specs.Form.{Form, operator, empty, as_tree, then_, maybe, named, member, terminal_at}
 use Rattle.qt_grammar.specs.Lookahead.{first}
 use Rattle.qt_grammar.specs.Outcome.{Outcome}
 pub use Rattle.qt_grammar.specs.Outcome.{Says}
@@ -37,7 +37,7 @@ Adds before found (Err e) = found ≡ Err e
 abbrev pub cap : ℕ
 cap = language_limits.operators
 
-module _ (tokens : List Terminal) where
+module _ (tokens : List PlacedTerminal) where
   abbrev pub named_to : ℕ → (n : Name) → Option ℕ → ℕ → Outcome (Value (sort n))
   named_to levels = run_to (stream tokens) cap (length tokens) levels
 
@@ -45,16 +45,16 @@ module _ (tokens : List Terminal) where
   abbrev pub reading : {s : Sort} → ℕ → Form s → Option ℕ → ℕ → Outcome (Value s)
   reading levels f outer at = run (stream tokens) cap (length tokens) (named_to levels) f outer at
 
-  unfoldable pub read_sign : ℕ → ℕ → Outcome Terminal
-  read_sign n at = if member (word_at (stream tokens) at) (n ∷ []) then Ok (stream tokens at, at + 1) else Err (Syntax at)
+  unfoldable pub read_exactly : ℕ → ℕ → Outcome PlacedTerminal
+  read_exactly n at = if member (terminal_at (stream tokens) at) (n ∷ []) then Ok (stream tokens at, at + 1) else Err (Syntax at)
 
-  -- the rest of a list: one more as long as a token of this word comes
-  unfoldable pub rest_separated : {s : Sort} → Word → Form s → ℕ → Option ℕ → ℕ → List (Value s) → ℕ → Outcome (List (Value s))
-  rest_separated k f levels outer turns all at = rest_of (λ i. member (word_at (stream tokens) i) (code k ∷ [])) (λ xs c x. xs ++ x ∷ []) (reading levels f outer) (reading levels (g.sign k) outer) turns all at
+  -- the rest of a list: one more as long as a token of this terminal comes
+  unfoldable pub rest_separated : {s : Sort} → Terminal → Form s → ℕ → Option ℕ → ℕ → List (Value s) → ℕ → Outcome (List (Value s))
+  rest_separated k f levels outer turns all at = rest_of (λ i. member (terminal_at (stream tokens) i) (code k ∷ [])) (λ xs c x. xs ++ x ∷ []) (reading levels f outer) (reading levels (g.exactly k) outer) turns all at
 
   -- the rest of a list with nothing between: one more as long as a token comes that one begins with
   unfoldable pub rest_some : {s : Sort} → Form s → ℕ → Option ℕ → ℕ → List (Value s) → ℕ → Outcome (List (Value s))
-  rest_some f levels outer turns all at = rest_of (λ i. member (word_at (stream tokens) i) (first f)) (λ xs c x. xs ++ x ∷ []) (reading levels f outer) (reading levels (empty {s = nothing} tt) outer) turns all at
+  rest_some f levels outer turns all at = rest_of (λ i. member (terminal_at (stream tokens) i) (first f)) (λ xs c x. xs ++ x ∷ []) (reading levels f outer) (reading levels (empty {s = nothing} tt) outer) turns all at
 
   -- ---- names
 
@@ -84,7 +84,7 @@ module _ (tokens : List Terminal) where
 
   -- what stands behind the first operands, with operators of this strength between
   unfoldable pub read_more_operands : ℕ → Option ℕ → ℕ → ℕ → Expr → ℕ → Outcome Expr
-  read_more_operands levels outer strength turns left at = rest_of (λ i. member (word_at (stream tokens) i) (g.ops_at strength)) g.joined (read_operation levels outer (strength + 1)) (reading levels (operator (g.ops_at strength)) outer) turns left at
+  read_more_operands levels outer strength turns left at = rest_of (λ i. member (terminal_at (stream tokens) i) (g.ops_at strength)) g.joined (read_operation levels outer (strength + 1)) (reading levels (operator (g.ops_at strength)) outer) turns left at
 
   unfoldable pub read_factor : ℕ → Option ℕ → ℕ → Outcome Expr
   read_factor levels outer at = reading levels g.factor outer at
@@ -117,7 +117,7 @@ module _ (tokens : List Terminal) where
   unfoldable pub read_scalar : ℕ → Option ℕ → ℕ → Outcome Scalar
   read_scalar levels outer at = reading levels g.a_scalar outer at
 
-  -- the size behind the word of a scalar, if there is one
+  -- the size behind the terminal of a scalar, if there is one
   unfoldable pub read_sized : ℕ → Option ℕ → ℕ → Outcome (Option Expr)
   read_sized levels outer at = reading levels (maybe {s = expr} g.size) outer at
 

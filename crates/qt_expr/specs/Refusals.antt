@@ -4,8 +4,8 @@ use Rattle.std.specs.Prelude.{◌≡◌, ℕ, List, Option, Some, None, Result, 
 use Rattle.qt_tree.specs.declared.place.Place.{Place}
 use Rattle.qt_tree.specs.declared.refusal.Feature.{Feature}
 use Rattle.qt_tree.specs.declared.expression.Expr.{Expr}
-use Rattle.qt_words.specs.Words.{feature_of}
-use Rattle.qt_words.specs.Terminals.{Terminal, stream}
+use Rattle.qt_terminals.specs.Alphabet.{feature_of}
+use Rattle.qt_terminals.specs.Terminals.{PlacedTerminal, stream}
 use Rattle.qt_grammar.specs.declared.refusal.Refusal.{Refusal}
 use Rattle.qt_grammar.specs.declared.refusal.Refusal.TheVariants as by_number
 use Rattle.qt_grammar.specs.Sorts.{expr}
@@ -20,13 +20,13 @@ abbrev pub stopped_by : Option Feature → Place → ParseRefusal
 stopped_by None place = Syntax place
 stopped_by (Some feature) place = NotInProfile place feature
 
-abbrev pub told : List Terminal → Refusal → ParseRefusal
-told ts (by_number.Syntax n) = stopped_by (feature_of ((stream ts n).word)) ((stream ts n).place)
-told ts (by_number.Nest n) = Nest ((stream ts n).place)
-told ts by_number.OutOfMemory = OutOfMemory
+abbrev pub located : List PlacedTerminal → Refusal → ParseRefusal
+located ts (by_number.Syntax n) = stopped_by (feature_of ((stream ts n).terminal)) ((stream ts n).place)
+located ts (by_number.Nest n) = Nest ((stream ts n).place)
+located ts by_number.OutOfMemory = OutOfMemory
 
 -- The longest list of tokens from place `at` that opens an expression is one, within the limits, and this is its tree; or else
 -- the refusal tells the first token of it that is too deep, or the token behind it.
-abbrev pub AnswersExpression : List Terminal → ℕ → ℕ → Result (Expr × ℕ) ParseRefusal → Type 0
+abbrev pub AnswersExpression : List PlacedTerminal → ℕ → ℕ → Result (Expr × ℕ) ParseRefusal → Type 0
 AnswersExpression ts depth at (Ok found) = Answers (stream ts) expr expression None at (limits_at depth) (Ok found)
-AnswersExpression ts depth at (Err e) = (why : Refusal) × Answers (stream ts) expr expression None at (limits_at depth) (Err why) × (e ≡ told ts why)
+AnswersExpression ts depth at (Err e) = (why : Refusal) × Answers (stream ts) expr expression None at (limits_at depth) (Err why) × (e ≡ located ts why)

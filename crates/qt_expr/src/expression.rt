@@ -6,11 +6,11 @@ ghost use Rattle.qt_expr.specs.Parser.{read_expression, read_expressions, read_i
 
 use crate::nesting::Nesting;
 use crate::operator::{STRENGTHS, before_operator, binary, binary_operator};
-use crate::pieces::together;
+use crate::pieces::paired;
 use crate::reader::Reader;
 use qt_grammar::refusal::Refusal;
+use qt_terminals::stream::TokenStream;
 use qt_tree::expression::{Expr, Index, Range, Scalar};
-use qt_words::stream::TokenStream;
 use sqlite_items::Items;
 use std::alloc::Global;
 
@@ -51,12 +51,12 @@ fn more_operands(
     let mut left = left;
     let mut at = at;
     'turn: for turn in 0..tokens.len() {
-        let Some(found) = binary_operator(strength, tokens.word(at)) else {
+        let Some(found) = binary_operator(strength, tokens.terminal(at)) else {
             return Ok((left, at));
         };
         let (before, behind) = before_operator(tokens, nesting, left, at)?;
         let right = operation(alloc, tokens, nesting, strength + 1, behind);
-        let ((before, right), behind) = together(before, right)?;
+        let ((before, right), behind) = paired(before, right)?;
         left = binary(alloc, found, before, right)?;
         at = behind;
     }

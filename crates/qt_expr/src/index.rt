@@ -1,9 +1,9 @@
 //! Indexes and ranges.
 
 ghost use Rattle.std.specs.Prelude.{◌≡◌, ◌+◌, ◌≤◌, length, None, Some};
-ghost use Rattle.qt_words.specs.declared.word.Word.TheVariants as w;
+ghost use Rattle.qt_terminals.specs.declared.terminal.Terminal.TheVariants as w;
 ghost use Rattle.qt_grammar.specs.Form as form;
-ghost use Rattle.qt_words.specs.Words as words;
+ghost use Rattle.qt_terminals.specs.Alphabet as alphabet;
 ghost use Rattle.qt_grammar.specs.Lookahead as lookahead;
 ghost use Rattle.qt_grammar.specs.Sorts as sorts;
 ghost use Rattle.qt_grammar.specs.Language as language;
@@ -12,28 +12,28 @@ ghost use Rattle.qt_expr.specs.Nested.{Nests};
 ghost use Rattle.qt_expr.specs.Parser.{read_all_indexes, read_behind_start, read_index, read_index_form, read_index_list, read_indexes, read_place_or_range, read_range, read_range_form, rest_separated, rest_some};
 
 use crate::nesting::{Nesting, too_deep};
-use crate::pieces::{ended, together};
+use crate::one_token::{begins_expression, behind, exactly, next_is};
+use crate::pieces::{ended, paired};
 use crate::reader::Reader;
-use crate::sign::{begins_expression, behind, next_is, sign};
 use qt_grammar::refusal::Refusal;
+use qt_terminals::stream::TokenStream;
+use qt_terminals::terminal::Terminal;
 use qt_tree::expression::{Expr, Index, Range};
-use qt_words::stream::TokenStream;
-use qt_words::word::Word;
 use sqlite_items::Items;
 use std::alloc::Global;
 
-/// Whether what stands in the brackets of an index begins with that word.
-fn begins_index(word: Word) -> bool
-    ensures { result ≡ form.member (words.code word) (lookahead.first_of sorts.an_index) }
+/// Whether what stands in the brackets of an index begins with that terminal.
+fn begins_index(terminal: Terminal) -> bool
+    ensures { result ≡ form.member (alphabet.code terminal) (lookahead.first_of sorts.an_index) }
 {
-    matches!(word, Word::LeftBrace | Word::Colon) || begins_expression(word)
+    matches!(terminal, Terminal::LeftBrace | Terminal::Colon) || begins_expression(terminal)
 }
 
 impl<
     F: Fn(Global, &TokenStream<'_>, Nesting, usize, usize) -> Result<(Expr, usize), Refusal>,
 > Reader<F> {
     /// A range from its colon on, behind its start.
-    #[tactic(auto, unfolding(crate::specs::Parser::read_behind_start, crate::specs::Parser::read_sign, crate::specs::Parser::read_expression, crate::specs::Parser::read_expression_or_none))]
+    #[tactic(auto, unfolding(crate::specs::Parser::read_behind_start, crate::specs::Parser::read_exactly, crate::specs::Parser::read_expression, crate::specs::Parser::read_expression_or_none))]
     pub fn behind_start(
         &self,
         tokens: &TokenStream<'_>,
@@ -44,18 +44,18 @@ impl<
         requires { Nests (nesting.levels + 1) (F.pre self.now.operation) (F.post self.now.operation) }
         ensures { Says (read_behind_start tokens.now nesting.levels nesting.outer start at) result }
     {
-        let (start, at) = ended(tokens, start, at, Word::Colon)?;
-        if !begins_expression(tokens.word(at)) {
+        let (start, at) = ended(tokens, start, at, Terminal::Colon)?;
+        if !begins_expression(tokens.terminal(at)) {
             let (step, end) = (None, None);
             return Ok((Range { start, step, end }, at));
         }
-        let ((start, second), at) = together(start, self.expression(tokens, nesting, at))?;
-        if !next_is(tokens, at, Word::Colon) {
+        let ((start, second), at) = paired(start, self.expression(tokens, nesting, at))?;
+        if !next_is(tokens, at, Terminal::Colon) {
             let (step, end) = (None, Some(second));
             return Ok((Range { start, step, end }, at));
         }
-        let (read, at) = ended(tokens, (start, second), at, Word::Colon)?;
-        let (((start, second), end), at) = together(
+        let (read, at) = ended(tokens, (start, second), at, Terminal::Colon)?;
+        let (((start, second), end), at) = paired(
             read,
             self.expression_or_none(tokens, nesting, at),
         )?;
@@ -74,7 +74,7 @@ impl<
         requires { Nests (nesting.levels + 1) (F.pre self.now.operation) (F.post self.now.operation) }
         ensures { Says (read_range_form tokens.now nesting.levels nesting.outer at) result }
     {
-        if next_is(tokens, at, Word::Colon) {
+        if next_is(tokens, at, Terminal::Colon) {
             return self.behind_start(tokens, nesting, None, at);
         }
         let (start, at) = self.expression(tokens, nesting, at)?;
@@ -95,7 +95,7 @@ impl<
         if nesting.levels == 0 {
             return Err(too_deep(
                 at,
-                next_is(tokens, at, Word::Colon) || begins_expression(tokens.word(at)),
+                next_is(tokens, at, Terminal::Colon) || begins_expression(tokens.terminal(at)),
             ));
         }
         self.range_form(tokens, nesting.below(), at)
@@ -113,7 +113,7 @@ impl<
         ensures { Says (read_place_or_range tokens.now nesting.levels nesting.outer at) result }
     {
         let (place, at) = self.expression(tokens, nesting, at)?;
-        if !next_is(tokens, at, Word::Colon) {
+        if !next_is(tokens, at, Terminal::Colon) {
             return Ok((Index::At { place }, at));
         }
         let (range, at) = self.behind_start(tokens, nesting, Some(place), at)?;
@@ -131,12 +131,12 @@ impl<
         requires { Nests (nesting.levels + 1) (F.pre self.now.operation) (F.post self.now.operation) }
         ensures { Says (read_index_form tokens.now nesting.levels nesting.outer at) result }
     {
-        match tokens.word(at) {
-            Word::LeftBrace => {
+        match tokens.terminal(at) {
+            Terminal::LeftBrace => {
                 let (places, at) = self.set(tokens, nesting, at)?;
                 Ok((Index::Set { places }, at))
             }
-            Word::Colon => {
+            Terminal::Colon => {
                 let (range, at) = self.behind_start(tokens, nesting, None, at)?;
                 Ok((Index::Range { range }, at))
             }
@@ -156,7 +156,7 @@ impl<
         ensures { Says (read_index tokens.now nesting.levels nesting.outer at) result }
     {
         if nesting.levels == 0 {
-            return Err(too_deep(at, begins_index(tokens.word(at))));
+            return Err(too_deep(at, begins_index(tokens.terminal(at))));
         }
         self.index_form(tokens, nesting.below(), at)
     }
@@ -193,7 +193,7 @@ impl<
         let mut all = all;
         let mut at = at;
         'turn: for turn in 0..tokens.len() {
-            if !next_is(tokens, at, Word::Comma) {
+            if !next_is(tokens, at, Terminal::Comma) {
                 return Ok((all, at));
             }
             let (next, behind) = self.index(tokens, nesting, behind(tokens, at))?;
@@ -204,7 +204,7 @@ impl<
     }
 
     /// `"[" index { "," index } "]"`
-    #[tactic(auto, unfolding(crate::specs::Parser::read_indexes, crate::specs::Parser::read_index_list, crate::specs::Parser::read_sign))]
+    #[tactic(auto, unfolding(crate::specs::Parser::read_indexes, crate::specs::Parser::read_index_list, crate::specs::Parser::read_exactly))]
     pub fn indexes(
         &self,
         tokens: &TokenStream<'_>,
@@ -214,9 +214,9 @@ impl<
         requires { Nests nesting.levels (F.pre self.now.operation) (F.post self.now.operation) }
         ensures { Says (read_indexes tokens.now nesting.levels nesting.outer at) result }
     {
-        let at = sign(tokens, at, Word::LeftBracket)?;
+        let at = exactly(tokens, at, Terminal::LeftBracket)?;
         let (inner, at) = self.index_list(tokens, nesting, at)?;
-        ended(tokens, inner, at, Word::RightBracket)
+        ended(tokens, inner, at, Terminal::RightBracket)
     }
 
     /// Brackets with indexes, one after the other, at least one.
@@ -251,7 +251,7 @@ impl<
         let mut all = all;
         let mut at = at;
         'turn: for turn in 0..tokens.len() {
-            if !next_is(tokens, at, Word::LeftBracket) {
+            if !next_is(tokens, at, Terminal::LeftBracket) {
                 return Ok((all, at));
             }
             let (next, behind) = self.indexes(tokens, nesting, at)?;

@@ -1,12 +1,12 @@
 //! Where a form stands.
 
 ghost use Rattle.std.specs.Prelude.{◌≡◌, ◌-◌, ◌<◌, if◌then◌else◌};
-ghost use Rattle.qt_words.specs.Terminals.{stream};
+ghost use Rattle.qt_terminals.specs.Terminals.{stream};
 ghost use Rattle.qt_grammar.specs.Form as form;
 ghost use Rattle.qt_grammar.specs.declared.refusal.Refusal.TheVariants.{Syntax, Nest};
 
 use qt_grammar::refusal::Refusal;
-use qt_words::stream::TokenStream;
+use qt_terminals::stream::TokenStream;
 
 /// How many levels of nesting may still be opened below a form, and how many operators of the text stand before the outermost
 /// expression round it, which is `None` where no expression stands round it.

@@ -1,22 +1,22 @@
 //! Operators.
 
 ghost use Rattle.std.specs.Prelude.{◌≡◌, ◌+◌, ◌<◌, ◌≤◌, true, false, [], ◌∷◌, IfOk, IfErr, IfSome, IfNone};
-ghost use Rattle.qt_words.specs.Words as words;
-ghost use Rattle.qt_words.specs.Terminals.{stream};
-ghost use Rattle.qt_words.specs.declared.word.Word.TheVariants as w;
+ghost use Rattle.qt_terminals.specs.Alphabet as alphabet;
+ghost use Rattle.qt_terminals.specs.Terminals.{stream};
+ghost use Rattle.qt_terminals.specs.declared.terminal.Terminal.TheVariants as w;
 ghost use Rattle.qt_tree.specs.declared.expression.Expr.TheVariants as e;
-ghost use Rattle.qt_grammar.specs.Form.{member, word_at};
+ghost use Rattle.qt_grammar.specs.Form.{member, terminal_at};
 ghost use Rattle.qt_grammar.specs.Language as language;
 ghost use Rattle.qt_grammar.specs.Form as form;
 ghost use Rattle.qt_grammar.specs.declared.refusal.Refusal.TheVariants.{Nest};
 ghost use Rattle.qt_expr.specs.Parser.{cap};
 
 use crate::nesting::Nesting;
-use crate::sign::behind;
+use crate::one_token::behind;
 use qt_grammar::refusal::Refusal;
-use qt_tree::expression::{BinaryOp, Expr, UnaryOperator};
-use qt_words::stream::TokenStream;
-use qt_words::word::Word;
+use qt_terminals::stream::TokenStream;
+use qt_terminals::terminal::Terminal;
+use qt_tree::expression::{Expr, InfixOperator, PrefixOperator};
 use sqlite_items::Boxed;
 use std::alloc::{AllocError, Global};
 
@@ -26,55 +26,55 @@ pub const STRENGTHS: usize = 10;
 /// How many operators an expression has at most that stands in no other.
 const MOST_OPERATORS: usize = 256;
 
-/// The binary operator of a strength that a word is, the weakest having strength 0.
-pub fn binary_operator(strength: usize, word: Word) -> Option<BinaryOp>
+/// The binary operator of a strength that a terminal is, the weakest having strength 0.
+pub fn binary_operator(strength: usize, terminal: Terminal) -> Option<InfixOperator>
     requires { strength < 10 }
-    ensures some { IfSome result (λ operator. operator ≡ language.binary_op word) }
-    ensures yes { IfSome result (λ operator. member (words.code word) (language.ops_at strength) ≡ true) }
-    ensures within { IfSome result (λ operator. 0 < words.code word) }
-    ensures none { IfNone result (member (words.code word) (language.ops_at strength) ≡ false) }
+    ensures some { IfSome result (λ operator. operator ≡ language.binary_op terminal) }
+    ensures yes { IfSome result (λ operator. member (alphabet.code terminal) (language.ops_at strength) ≡ true) }
+    ensures within { IfSome result (λ operator. 0 < alphabet.code terminal) }
+    ensures none { IfNone result (member (alphabet.code terminal) (language.ops_at strength) ≡ false) }
 {
-    match (strength, word) {
-        (0, Word::OrOr) => Some(BinaryOp::LogicalOr),
-        (1, Word::AndAnd) => Some(BinaryOp::LogicalAnd),
-        (2, Word::Or) => Some(BinaryOp::Or),
-        (3, Word::Caret) => Some(BinaryOp::Xor),
-        (4, Word::And) => Some(BinaryOp::And),
-        (5, Word::EqualEqual) => Some(BinaryOp::Eq),
-        (5, Word::NotEqual) => Some(BinaryOp::Ne),
-        (6, Word::Less) => Some(BinaryOp::Lt),
-        (6, Word::LessEqual) => Some(BinaryOp::Le),
-        (6, Word::Greater) => Some(BinaryOp::Gt),
-        (6, Word::GreaterEqual) => Some(BinaryOp::Ge),
-        (7, Word::ShiftLeft) => Some(BinaryOp::Shl),
-        (7, Word::ShiftRight) => Some(BinaryOp::Shr),
-        (8, Word::Plus) => Some(BinaryOp::Add),
-        (8, Word::Minus) => Some(BinaryOp::Sub),
-        (9, Word::Star) => Some(BinaryOp::Mul),
-        (9, Word::Slash) => Some(BinaryOp::Div),
-        (9, Word::Percent) => Some(BinaryOp::Rem),
+    match (strength, terminal) {
+        (0, Terminal::OrOr) => Some(InfixOperator::LogicalOr),
+        (1, Terminal::AndAnd) => Some(InfixOperator::LogicalAnd),
+        (2, Terminal::Or) => Some(InfixOperator::Or),
+        (3, Terminal::Caret) => Some(InfixOperator::Xor),
+        (4, Terminal::And) => Some(InfixOperator::And),
+        (5, Terminal::EqualEqual) => Some(InfixOperator::Eq),
+        (5, Terminal::NotEqual) => Some(InfixOperator::Ne),
+        (6, Terminal::Less) => Some(InfixOperator::Lt),
+        (6, Terminal::LessEqual) => Some(InfixOperator::Le),
+        (6, Terminal::Greater) => Some(InfixOperator::Gt),
+        (6, Terminal::GreaterEqual) => Some(InfixOperator::Ge),
+        (7, Terminal::ShiftLeft) => Some(InfixOperator::Shl),
+        (7, Terminal::ShiftRight) => Some(InfixOperator::Shr),
+        (8, Terminal::Plus) => Some(InfixOperator::Add),
+        (8, Terminal::Minus) => Some(InfixOperator::Sub),
+        (9, Terminal::Star) => Some(InfixOperator::Mul),
+        (9, Terminal::Slash) => Some(InfixOperator::Div),
+        (9, Terminal::Percent) => Some(InfixOperator::Rem),
         _ => None,
     }
 }
 
-/// The unary operator that a word is.
-pub fn unary_operator(word: Word) -> Option<UnaryOperator>
-    ensures some { IfSome result (λ operator. operator ≡ language.unary_op word) }
-    ensures yes { IfSome result (λ operator. member (words.code word) (words.code w.Minus ∷ words.code w.Bang ∷ words.code w.Tilde ∷ []) ≡ true) }
-    ensures within { IfSome result (λ operator. 0 < words.code word) }
-    ensures none { IfNone result (member (words.code word) (words.code w.Minus ∷ words.code w.Bang ∷ words.code w.Tilde ∷ []) ≡ false) }
+/// The unary operator that a terminal is.
+pub fn unary_operator(terminal: Terminal) -> Option<PrefixOperator>
+    ensures some { IfSome result (λ operator. operator ≡ language.unary_op terminal) }
+    ensures yes { IfSome result (λ operator. member (alphabet.code terminal) (alphabet.code w.Minus ∷ alphabet.code w.Bang ∷ alphabet.code w.Tilde ∷ []) ≡ true) }
+    ensures within { IfSome result (λ operator. 0 < alphabet.code terminal) }
+    ensures none { IfNone result (member (alphabet.code terminal) (alphabet.code w.Minus ∷ alphabet.code w.Bang ∷ alphabet.code w.Tilde ∷ []) ≡ false) }
 {
-    match word {
-        Word::Minus => Some(UnaryOperator::Neg),
-        Word::Bang => Some(UnaryOperator::Not),
-        Word::Tilde => Some(UnaryOperator::Turn),
+    match terminal {
+        Terminal::Minus => Some(PrefixOperator::Neg),
+        Terminal::Bang => Some(PrefixOperator::Not),
+        Terminal::Tilde => Some(PrefixOperator::Turn),
         _ => None,
     }
 }
 
 /// The place behind an operator; Nest where it is one too many in the outermost expression.
 pub fn operator(tokens: &TokenStream<'_>, nesting: Nesting, at: usize) -> Result<usize, Refusal>
-    requires { 0 < word_at (stream tokens.now) at }
+    requires { 0 < terminal_at (stream tokens.now) at }
     ensures fits { IfOk result (λ behind. form.within cap nesting.outer ((stream tokens.now at).operators) ≡ true) }
     ensures place { IfOk result (λ behind. behind ≡ at + 1) }
     ensures one_too_many { IfErr result (λ refusal. form.within cap nesting.outer ((stream tokens.now at).operators) ≡ false) }
@@ -98,7 +98,7 @@ pub fn before_operator<T: Drop>(
     read: T,
     at: usize,
 ) -> Result<(T, usize), Refusal>
-    requires { 0 < word_at (stream tokens.now) at }
+    requires { 0 < terminal_at (stream tokens.now) at }
     ensures fits { IfOk result (λ found. form.within cap nesting.outer ((stream tokens.now at).operators) ≡ true) }
     ensures place { IfOk result (λ found. found ≡ (read, at + 1)) }
     ensures one_too_many { IfErr result (λ refusal. form.within cap nesting.outer ((stream tokens.now at).operators) ≡ false) }
@@ -122,7 +122,7 @@ fn both_boxed<A: Drop, B: Drop>(
 /// A binary operator between its operands.
 pub fn binary(
     alloc: Global,
-    operator: BinaryOp,
+    operator: InfixOperator,
     left: Expr,
     right: Expr,
 ) -> Result<Expr, AllocError>

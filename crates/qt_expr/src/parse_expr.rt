@@ -1,16 +1,16 @@
 //! An expression of a text.
 
 ghost use Rattle.std.specs.Prelude.{◌≤◌};
-ghost use Rattle.qt_words.specs.Terminals.{terminals};
+ghost use Rattle.qt_terminals.specs.Terminals.{terminals};
 ghost use Rattle.qt_grammar.specs.Reading.{language_limits};
 ghost use Rattle.qt_expr.specs.Refusals.{AnswersExpression};
 
 use crate::expression::expression;
 use crate::nesting::Nesting;
-use crate::refusal::{ParseRefusal, told};
+use crate::refusal::{ParseRefusal, located};
 use qt_lex::tokens::Token;
+use qt_terminals::stream::TokenStream;
 use qt_tree::expression::Expr;
-use qt_words::stream::TokenStream;
 use std::alloc::Global;
 
 /// How many levels of nesting there are at most.
@@ -32,7 +32,7 @@ fn expression_at(
     };
     match expression(alloc, tokens, nesting, at) {
         Ok(found) => Ok(found),
-        Err(refusal) => Err(told(tokens, refusal)),
+        Err(refusal) => Err(located(tokens, refusal)),
     }
 }
 

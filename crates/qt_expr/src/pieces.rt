@@ -4,35 +4,35 @@
 //! needn't prove what there is to drop, variant by variant, at each of its refusals.
 
 ghost use Rattle.std.specs.Prelude.{◌≡◌, ◌<◌};
-ghost use Rattle.qt_words.specs.Words as words;
-ghost use Rattle.qt_words.specs.Terminals.{stream};
+ghost use Rattle.qt_terminals.specs.Alphabet as alphabet;
+ghost use Rattle.qt_terminals.specs.Terminals.{stream};
 ghost use Rattle.qt_grammar.specs.Outcome.{Says};
-ghost use Rattle.qt_expr.specs.Parser.{Adds, Ends, read_sign};
+ghost use Rattle.qt_expr.specs.Parser.{Adds, Ends, read_exactly};
 
-use crate::sign::sign;
+use crate::one_token::exactly;
 use qt_grammar::refusal::Refusal;
-use qt_words::stream::TokenStream;
-use qt_words::word::Word;
+use qt_terminals::stream::TokenStream;
+use qt_terminals::terminal::Terminal;
 use sqlite_items::Boxed;
 use std::alloc::Global;
 
-/// What was read, and the place behind the token of that word which ends it; Syntax where another stands there.
-#[tactic(auto, unfolding(crate::specs::Parser::read_sign))]
+/// What was read, and the place behind the token of that terminal which ends it; Syntax where another stands there.
+#[tactic(auto, unfolding(crate::specs::Parser::read_exactly))]
 pub fn ended<T: Drop>(
     tokens: &TokenStream<'_>,
     read: T,
     at: usize,
-    word: Word,
+    terminal: Terminal,
 ) -> Result<(T, usize), Refusal>
-    requires { 0 < words.code word }
-    ensures { Ends (read_sign tokens.now (words.code word) at) (stream tokens.now at) read result }
+    requires { 0 < alphabet.code terminal }
+    ensures { Ends (read_exactly tokens.now (alphabet.code terminal) at) (stream tokens.now at) read result }
 {
-    let at = sign(tokens, at, word)?;
+    let at = exactly(tokens, at, terminal)?;
     Ok((read, at))
 }
 
 /// What was read first, together with what was read behind it, or why that wasn't read.
-pub fn together<A: Drop, B: Drop>(
+pub fn paired<A: Drop, B: Drop>(
     first: A,
     second: Result<(B, usize), Refusal>,
 ) -> Result<((A, B), usize), Refusal>

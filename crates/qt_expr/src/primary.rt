@@ -1,7 +1,7 @@
 //! Primaries, and factors: primaries with their unary operators and exponents.
 
 ghost use Rattle.std.specs.Prelude.{◌≡◌, ◌+◌, ◌≤◌, length, None, Some};
-ghost use Rattle.qt_words.specs.declared.word.Word.TheVariants as w;
+ghost use Rattle.qt_terminals.specs.declared.terminal.Terminal.TheVariants as w;
 ghost use Rattle.qt_grammar.specs.Form as form;
 ghost use Rattle.qt_grammar.specs.Sorts as sorts;
 ghost use Rattle.qt_grammar.specs.Language as language;
@@ -11,15 +11,15 @@ ghost use Rattle.qt_expr.specs.Parser.{read_cast, read_dimension, read_factor, r
 
 use crate::literal::literal;
 use crate::nesting::{Nesting, too_deep};
+use crate::one_token::{behind, exactly, label, next_is};
 use crate::operator::{before_operator, binary, operator, unary_operator};
-use crate::pieces::{boxed, ended, together};
+use crate::pieces::{boxed, ended, paired};
 use crate::reader::Reader;
-use crate::sign::{behind, label, next_is, sign};
 use qt_grammar::refusal::Refusal;
-use qt_tree::expression::{BinaryOp, Expr, Scalar};
+use qt_terminals::stream::TokenStream;
+use qt_terminals::terminal::Terminal;
+use qt_tree::expression::{Expr, InfixOperator, Scalar};
 use qt_tree::label::Label;
-use qt_words::stream::TokenStream;
-use qt_words::word::Word;
 use sqlite_items::{Boxed, Items};
 use std::alloc::Global;
 
@@ -37,7 +37,7 @@ impl<
         requires { Nests nesting.levels (F.pre self.now.operation) (F.post self.now.operation) }
         ensures { Says (read_sized tokens.now nesting.levels nesting.outer at) result }
     {
-        if !next_is(tokens, at, Word::LeftBracket) {
+        if !next_is(tokens, at, Terminal::LeftBracket) {
             return Ok((None, at));
         }
         let (size, at) = self.size(tokens, nesting, at)?;
@@ -55,21 +55,21 @@ impl<
         requires { Nests nesting.levels (F.pre self.now.operation) (F.post self.now.operation) }
         ensures { Says (read_scalar tokens.now nesting.levels nesting.outer at) result }
     {
-        match tokens.word(at) {
-            Word::Bool => Ok((Scalar::Bool, behind(tokens, at))),
-            Word::Bit => {
+        match tokens.terminal(at) {
+            Terminal::Bool => Ok((Scalar::Bool, behind(tokens, at))),
+            Terminal::Bit => {
                 let (size, at) = self.size_or_none(tokens, nesting, behind(tokens, at))?;
                 Ok((Scalar::Bit { size }, at))
             }
-            Word::Int => {
+            Terminal::Int => {
                 let (size, at) = self.size_or_none(tokens, nesting, behind(tokens, at))?;
                 Ok((Scalar::Int { size }, at))
             }
-            Word::Uint => {
+            Terminal::Uint => {
                 let (size, at) = self.size_or_none(tokens, nesting, behind(tokens, at))?;
                 Ok((Scalar::Uint { size }, at))
             }
-            Word::Angle => {
+            Terminal::Angle => {
                 let (size, at) = self.size_or_none(tokens, nesting, behind(tokens, at))?;
                 Ok((Scalar::Angle { size }, at))
             }
@@ -90,12 +90,12 @@ impl<
     {
         let (to, at) = self.scalar(tokens, nesting, at)?;
         let operand = boxed(self.alloc, self.in_parentheses(tokens, nesting, at));
-        let ((to, operand), at) = together(to, operand)?;
+        let ((to, operand), at) = paired(to, operand)?;
         Ok((Expr::Cast { to, operand }, at))
     }
 
     /// `"sizeof" "(" Name [ "," expr ] ")"`
-    #[tactic(auto, unfolding(crate::specs::Parser::read_size_of, crate::specs::Parser::read_in_size_of, crate::specs::Parser::read_sign))]
+    #[tactic(auto, unfolding(crate::specs::Parser::read_size_of, crate::specs::Parser::read_in_size_of, crate::specs::Parser::read_exactly))]
     pub fn size_of(
         &self,
         tokens: &TokenStream<'_>,
@@ -105,10 +105,10 @@ impl<
         requires { Nests nesting.levels (F.pre self.now.operation) (F.post self.now.operation) }
         ensures { Says (read_size_of tokens.now nesting.levels nesting.outer at) result }
     {
-        let at = sign(tokens, at, Word::SizeOf)?;
-        let at = sign(tokens, at, Word::LeftParen)?;
+        let at = exactly(tokens, at, Terminal::SizeOf)?;
+        let at = exactly(tokens, at, Terminal::LeftParen)?;
         let (inner, at) = self.in_size_of(tokens, nesting, at)?;
-        let ((name, dimension), at) = ended(tokens, inner, at, Word::RightParen)?;
+        let ((name, dimension), at) = ended(tokens, inner, at, Terminal::RightParen)?;
         Ok((Expr::SizeOf { name, dimension }, at))
     }
 
@@ -124,13 +124,13 @@ impl<
         ensures { Says (read_in_size_of tokens.now nesting.levels nesting.outer at) result }
     {
         if nesting.levels == 0 {
-            return Err(too_deep(at, next_is(tokens, at, Word::Name)));
+            return Err(too_deep(at, next_is(tokens, at, Terminal::Name)));
         }
         self.dimension(tokens, nesting.below(), at)
     }
 
     /// `Name [ "," expr ]`
-    #[tactic(auto, unfolding(crate::specs::Parser::read_dimension, crate::specs::Parser::read_label, crate::specs::Parser::read_sign, crate::specs::Parser::read_expression))]
+    #[tactic(auto, unfolding(crate::specs::Parser::read_dimension, crate::specs::Parser::read_label, crate::specs::Parser::read_exactly, crate::specs::Parser::read_expression))]
     pub fn dimension(
         &self,
         tokens: &TokenStream<'_>,
@@ -141,10 +141,10 @@ impl<
         ensures { Says (read_dimension tokens.now nesting.levels nesting.outer at) result }
     {
         let (name, at) = label(self.alloc, tokens, at)?;
-        if !next_is(tokens, at, Word::Comma) {
+        if !next_is(tokens, at, Terminal::Comma) {
             return Ok(((name, None), at));
         }
-        let at = sign(tokens, at, Word::Comma)?;
+        let at = exactly(tokens, at, Terminal::Comma)?;
         let (dimension, at) = self.expression(tokens, nesting, at)?;
         let dimension = Boxed::new(self.alloc, dimension)?;
         Ok(((name, Some(dimension)), at))
@@ -162,12 +162,12 @@ impl<
         ensures { Says (read_name tokens.now nesting.levels nesting.outer at) result }
     {
         let (name, at) = label(self.alloc, tokens, at)?;
-        match tokens.word(at) {
-            Word::LeftParen => {
+        match tokens.terminal(at) {
+            Terminal::LeftParen => {
                 let (arguments, at) = self.arguments(tokens, nesting, at)?;
                 Ok((Expr::Call { name, arguments }, at))
             }
-            Word::LeftBracket => {
+            Terminal::LeftBracket => {
                 let (brackets, at) = self.all_indexes(tokens, nesting, at)?;
                 Ok((Expr::Name { name, brackets }, at))
             }
@@ -189,17 +189,17 @@ impl<
         requires { Nests nesting.levels (F.pre self.now.operation) (F.post self.now.operation) }
         ensures { Says (read_primary tokens.now nesting.levels nesting.outer at) result }
     {
-        match tokens.word(at) {
-            Word::LeftParen => {
+        match tokens.terminal(at) {
+            Terminal::LeftParen => {
                 let (inner, at) = self.in_parentheses(tokens, nesting, at)?;
                 let inner = Boxed::new(self.alloc, inner)?;
                 Ok((Expr::Parenthesized { inner }, at))
             }
-            Word::Name => self.name(tokens, nesting, at),
-            Word::Bool | Word::Bit | Word::Int | Word::Uint | Word::Angle => {
+            Terminal::Name => self.name(tokens, nesting, at),
+            Terminal::Bool | Terminal::Bit | Terminal::Int | Terminal::Uint | Terminal::Angle => {
                 self.cast(tokens, nesting, at)
             }
-            Word::SizeOf => self.size_of(tokens, nesting, at),
+            Terminal::SizeOf => self.size_of(tokens, nesting, at),
             _ => literal(tokens, at),
         }
     }
@@ -216,12 +216,12 @@ impl<
         ensures { Says (read_power tokens.now nesting.levels nesting.outer at) result }
     {
         let (base, at) = self.primary(tokens, nesting, at)?;
-        if !next_is(tokens, at, Word::StarStar) {
+        if !next_is(tokens, at, Terminal::StarStar) {
             return Ok((base, at));
         }
         let (base, at) = before_operator(tokens, nesting, base, at)?;
-        let ((base, exponent), at) = together(base, self.unary(tokens, nesting, at))?;
-        Ok((binary(self.alloc, BinaryOp::Pow, base, exponent)?, at))
+        let ((base, exponent), at) = paired(base, self.unary(tokens, nesting, at))?;
+        Ok((binary(self.alloc, InfixOperator::Pow, base, exponent)?, at))
     }
 
     /// A unary operator with its operand, or a primary with its exponent if there is one.
@@ -235,7 +235,7 @@ impl<
         requires { Nests nesting.levels (F.pre self.now.operation) (F.post self.now.operation) }
         ensures { Says (read_factor tokens.now nesting.levels nesting.outer at) result }
     {
-        let Some(sign) = unary_operator(tokens.word(at)) else {
+        let Some(exactly) = unary_operator(tokens.terminal(at)) else {
             return self.power(tokens, nesting, at);
         };
         let at = operator(tokens, nesting, at)?;
@@ -243,7 +243,7 @@ impl<
         let operand = Boxed::new(self.alloc, operand)?;
         Ok((
             Expr::Unary {
-                operator: sign,
+                operator: exactly,
                 operand,
             },
             at,

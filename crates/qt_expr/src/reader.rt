@@ -1,7 +1,7 @@
 //! The forms that hold expressions, and what all of them need: nested expressions and lists of them.
 
 ghost use Rattle.std.specs.Prelude.{◌≡◌, ◌+◌, ◌≤◌, length, None, Some};
-ghost use Rattle.qt_words.specs.declared.word.Word.TheVariants as w;
+ghost use Rattle.qt_terminals.specs.declared.terminal.Terminal.TheVariants as w;
 ghost use Rattle.qt_grammar.specs.Form as form;
 ghost use Rattle.qt_grammar.specs.Sorts as sorts;
 ghost use Rattle.qt_grammar.specs.Language as language;
@@ -10,13 +10,13 @@ ghost use Rattle.qt_expr.specs.Nested.{Nests};
 ghost use Rattle.qt_expr.specs.Parser.{read_any, read_arguments, read_expression, read_expression_or_none, read_expressions, read_in_parentheses, read_list, read_list_or_none, read_members, read_set, read_size, read_unary, rest_separated};
 
 use crate::nesting::{Nesting, too_deep};
+use crate::one_token::{begins_expression, behind, exactly, next_is};
 use crate::operator::STRENGTHS;
 use crate::pieces::ended;
-use crate::sign::{begins_expression, behind, next_is, sign};
 use qt_grammar::refusal::Refusal;
+use qt_terminals::stream::TokenStream;
+use qt_terminals::terminal::Terminal;
 use qt_tree::expression::Expr;
-use qt_words::stream::TokenStream;
-use qt_words::word::Word;
 use sqlite_items::Items;
 use std::alloc::Global;
 
@@ -57,7 +57,7 @@ impl<
         requires { Nests (nesting.levels + 1) (F.pre self.now.operation) (F.post self.now.operation) }
         ensures { Says (read_expression_or_none tokens.now nesting.levels nesting.outer at) result }
     {
-        if !begins_expression(tokens.word(at)) {
+        if !begins_expression(tokens.terminal(at)) {
             return Ok((None, at));
         }
         let (found, at) = self.expression(tokens, nesting, at)?;
@@ -96,7 +96,7 @@ impl<
         let mut all = all;
         let mut at = at;
         'turn: for turn in 0..tokens.len() {
-            if !next_is(tokens, at, Word::Comma) {
+            if !next_is(tokens, at, Terminal::Comma) {
                 return Ok((all, at));
             }
             let (next, behind) = self.expression(tokens, nesting, behind(tokens, at))?;
@@ -118,7 +118,7 @@ impl<
         ensures { Says (read_any tokens.now nesting.levels nesting.outer at) result }
     {
         if nesting.levels == 0 {
-            return Err(too_deep(at, begins_expression(tokens.word(at))));
+            return Err(too_deep(at, begins_expression(tokens.terminal(at))));
         }
         self.expression(tokens, nesting.below(), at)
     }
@@ -135,13 +135,13 @@ impl<
         ensures { Says (read_unary tokens.now nesting.levels nesting.outer at) result }
     {
         if nesting.levels == 0 {
-            return Err(too_deep(at, begins_expression(tokens.word(at))));
+            return Err(too_deep(at, begins_expression(tokens.terminal(at))));
         }
         (self.operation)(self.alloc, tokens, nesting.below(), STRENGTHS, at)
     }
 
     /// `"(" expr ")"`
-    #[tactic(auto, unfolding(crate::specs::Parser::read_in_parentheses, crate::specs::Parser::read_any, crate::specs::Parser::read_sign))]
+    #[tactic(auto, unfolding(crate::specs::Parser::read_in_parentheses, crate::specs::Parser::read_any, crate::specs::Parser::read_exactly))]
     pub fn in_parentheses(
         &self,
         tokens: &TokenStream<'_>,
@@ -151,13 +151,13 @@ impl<
         requires { Nests nesting.levels (F.pre self.now.operation) (F.post self.now.operation) }
         ensures { Says (read_in_parentheses tokens.now nesting.levels nesting.outer at) result }
     {
-        let at = sign(tokens, at, Word::LeftParen)?;
+        let at = exactly(tokens, at, Terminal::LeftParen)?;
         let (inner, at) = self.any(tokens, nesting, at)?;
-        ended(tokens, inner, at, Word::RightParen)
+        ended(tokens, inner, at, Terminal::RightParen)
     }
 
     /// `"[" expr "]"`
-    #[tactic(auto, unfolding(crate::specs::Parser::read_size, crate::specs::Parser::read_any, crate::specs::Parser::read_sign))]
+    #[tactic(auto, unfolding(crate::specs::Parser::read_size, crate::specs::Parser::read_any, crate::specs::Parser::read_exactly))]
     pub fn size(
         &self,
         tokens: &TokenStream<'_>,
@@ -167,9 +167,9 @@ impl<
         requires { Nests nesting.levels (F.pre self.now.operation) (F.post self.now.operation) }
         ensures { Says (read_size tokens.now nesting.levels nesting.outer at) result }
     {
-        let at = sign(tokens, at, Word::LeftBracket)?;
+        let at = exactly(tokens, at, Terminal::LeftBracket)?;
         let (inner, at) = self.any(tokens, nesting, at)?;
-        ended(tokens, inner, at, Word::RightBracket)
+        ended(tokens, inner, at, Terminal::RightBracket)
     }
 
     /// Expressions with commas between, each one level deeper, at least one.
@@ -204,7 +204,7 @@ impl<
         let mut all = all;
         let mut at = at;
         'turn: for turn in 0..tokens.len() {
-            if !next_is(tokens, at, Word::Comma) {
+            if !next_is(tokens, at, Terminal::Comma) {
                 return Ok((all, at));
             }
             let (next, behind) = self.any(tokens, nesting, behind(tokens, at))?;
@@ -225,14 +225,14 @@ impl<
         requires { Nests nesting.levels (F.pre self.now.operation) (F.post self.now.operation) }
         ensures { Says (read_list_or_none tokens.now nesting.levels nesting.outer at) result }
     {
-        if !begins_expression(tokens.word(at)) {
+        if !begins_expression(tokens.terminal(at)) {
             return Ok((Items::new(self.alloc), at));
         }
         self.list(tokens, nesting, at)
     }
 
     /// `"(" [ exprs ] ")"`
-    #[tactic(auto, unfolding(crate::specs::Parser::read_arguments, crate::specs::Parser::read_list_or_none, crate::specs::Parser::read_sign))]
+    #[tactic(auto, unfolding(crate::specs::Parser::read_arguments, crate::specs::Parser::read_list_or_none, crate::specs::Parser::read_exactly))]
     pub fn arguments(
         &self,
         tokens: &TokenStream<'_>,
@@ -242,9 +242,9 @@ impl<
         requires { Nests nesting.levels (F.pre self.now.operation) (F.post self.now.operation) }
         ensures { Says (read_arguments tokens.now nesting.levels nesting.outer at) result }
     {
-        let at = sign(tokens, at, Word::LeftParen)?;
+        let at = exactly(tokens, at, Terminal::LeftParen)?;
         let (inner, at) = self.list_or_none(tokens, nesting, at)?;
-        ended(tokens, inner, at, Word::RightParen)
+        ended(tokens, inner, at, Terminal::RightParen)
     }
 
     /// What stands in the braces of a set: a list.
@@ -262,7 +262,7 @@ impl<
     }
 
     /// `"{" exprs "}"`
-    #[tactic(auto, unfolding(crate::specs::Parser::read_set, crate::specs::Parser::read_members, crate::specs::Parser::read_sign))]
+    #[tactic(auto, unfolding(crate::specs::Parser::read_set, crate::specs::Parser::read_members, crate::specs::Parser::read_exactly))]
     pub fn set(
         &self,
         tokens: &TokenStream<'_>,
@@ -272,8 +272,8 @@ impl<
         requires { Nests nesting.levels (F.pre self.now.operation) (F.post self.now.operation) }
         ensures { Says (read_set tokens.now nesting.levels nesting.outer at) result }
     {
-        let at = sign(tokens, at, Word::LeftBrace)?;
+        let at = exactly(tokens, at, Terminal::LeftBrace)?;
         let (inner, at) = self.members(tokens, nesting, at)?;
-        ended(tokens, inner, at, Word::RightBrace)
+        ended(tokens, inner, at, Terminal::RightBrace)
     }
 }

@@ -1,13 +1,13 @@
 //! Why tokens aren't read, by place.
 
 ghost use Rattle.std.specs.Prelude.{◌≡◌};
-ghost use Rattle.qt_expr.specs.Refusals.{told};
+ghost use Rattle.qt_expr.specs.Refusals.{located};
 
 use qt_grammar::refusal::Refusal;
 use qt_outside::faults;
+use qt_terminals::stream::TokenStream;
 use qt_tree::place::Place;
 use qt_tree::refusal::Feature;
-use qt_words::stream::TokenStream;
 use std::alloc::{AllocError, AllocFailed};
 
 /// Why no tree is read from tokens, with the place of the token at fault.
@@ -58,11 +58,11 @@ impl<T: Drop> From<AllocFailed<T>> for ParseRefusal {
 
 /// The refusal by place: where a token stops the reading that is of a feature that the profile leaves out, NotInProfile with that
 /// feature. An `@` is none of these tokens here: it is refused as an annotation only where a statement could begin.
-pub fn told(tokens: &TokenStream<'_>, refusal: Refusal) -> ParseRefusal
-    ensures { result ≡ told tokens.now refusal }
+pub fn located(tokens: &TokenStream<'_>, refusal: Refusal) -> ParseRefusal
+    ensures { result ≡ located tokens.now refusal }
 {
     match refusal {
-        Refusal::Syntax(at) => match tokens.word(at).feature() {
+        Refusal::Syntax(at) => match tokens.terminal(at).feature() {
             Some(feature) => ParseRefusal::NotInProfile(tokens.place(at), feature),
             None => ParseRefusal::Syntax(tokens.place(at)),
         },

@@ -1,18 +1,18 @@
 -- What holds of each tree that a form reads, and that the bytes of its tokens pay for what is printed of it: one lemma for
 -- each way of building a form.
 use Rattle.std.proofs.Common.{◌≡◌, ℕ, zero, suc, ◌+◌, ◌*◌, ◌≤◌, ◌⊎◌, inl, inr, false, IsTrue, List, ◌++◌, length, Option, Some, None, refl, sym, ap, subst, arith, add-one}
-use Rattle.qt_words.specs.Words.{code}
-use Rattle.qt_words.specs.Terminals.{Terminal}
+use Rattle.qt_terminals.specs.Alphabet.{code}
+use Rattle.qt_terminals.specs.Terminals.{PlacedTerminal}
 use Rattle.qt_grammar.specs.Sorts.{Sort, Value, Name, sort}
 use Rattle.qt_grammar.specs.Form.{Form, one, operator, counted, here, empty, as_tree, then_, either, maybe, nearest, chain, member, begun, Reading, ReadsBy, ReadsMore, ReadsThen, pair_of, stepped}
 use Rattle.qt_grammar.specs.Language.{◌⊗◌}
-use Rattle.qt_print.specs.Words.{Word, optional as words_if}
+use Rattle.qt_print.specs.Lexemes.{Lexeme, optional as lexemes_if}
 use Rattle.qt_wording.specs.Faithful.{IsFaithful, AreNumbersAgain, total_length}
 use Rattle.qt_extent.proofs.Costs.{Fit, fit_nothing, fit_both, fit_is}
 
 -- tokens, and what the forms with names read within so many levels
 pub record Setting : Type 1 where
-  pub tokens : ℕ → Terminal
+  pub tokens : ℕ → PlacedTerminal
   pub faithful : (i : ℕ) → IsFaithful (tokens i)
   pub numbers : AreNumbersAgain
   pub cap : ℕ
@@ -20,16 +20,16 @@ pub record Setting : Type 1 where
   pub reads : (n : Name) → Option ℕ → Reading (Value (sort n))
 
 -- 500 for each byte of the tokens before a place
-abbrev pub budget : (ℕ → Terminal) → ℕ → ℕ
+abbrev pub budget : (ℕ → PlacedTerminal) → ℕ → ℕ
 budget ts i = 500 * total_length ts i
 
 -- F holds of each tree that the form reads and of a number that the bytes of its tokens pay for
 pub record Pays (z : Setting) {s : Sort} (f : Form s) (F : Value s → ℕ → Type 0) : Type 0 where
   pub pays : (outer : Option ℕ) (i : ℕ) (v : Value s) (j : ℕ) → ReadsBy z.tokens z.cap z.reads f outer i v j → (n : ℕ) × F v n × (budget z.tokens i + n ≤ budget z.tokens j)
 
--- the words of a tree are spelled and paid
-abbrev pub Of : {A : Type 0} → (A → List Word) → A → ℕ → Type 0
-Of words x n = Fit (words x) n
+-- the lexemes of a tree are spelled and paid
+abbrev pub Of : {A : Type 0} → (A → List Lexeme) → A → ℕ → Type 0
+Of lexemes x n = Fit (lexemes x) n
 
 -- nothing is said
 abbrev pub Any : {A : Type 0} → A → ℕ → Type 0
@@ -37,26 +37,26 @@ Any x n = Unit {0}
 
 -- ---- tokens
 
-pub next_length : (ts : ℕ → Terminal) (i : ℕ) → total_length ts (i + 1) ≡ total_length ts i + length ((ts i).spelling)
+pub next_length : (ts : ℕ → PlacedTerminal) (i : ℕ) → total_length ts (i + 1) ≡ total_length ts i + length ((ts i).spelling)
 next_length ts i = ap (total_length ts) (add-one i)
 
 -- a token that isn't the end has a byte
-has_byte : (t : Terminal) → IsFaithful t → (ws : List ℕ) → member 0 ws ≡ false → IsTrue (member (code t.word) ws) → 1 ≤ length t.spelling
+has_byte : (t : PlacedTerminal) → IsFaithful t → (ws : List ℕ) → member 0 ws ≡ false → IsTrue (member (code t.terminal) ws) → 1 ≤ length t.spelling
 has_byte t f ws none h = f.some (λ e. cc (subst (λ k. IsTrue (member (code k) ws)) e h, none))
 
--- of each token with one of these words F holds, with the bytes of its spelling
-abbrev pub OfToken : List ℕ → (Terminal → ℕ → Type 0) → Type 0
-OfToken ws F = (t : Terminal) → IsFaithful t → IsTrue (member (code t.word) ws) → 1 ≤ length t.spelling → F t (500 * length t.spelling)
+-- of each token with one of these lexemes F holds, with the bytes of its spelling
+abbrev pub OfToken : List ℕ → (PlacedTerminal → ℕ → Type 0) → Type 0
+OfToken ws F = (t : PlacedTerminal) → IsFaithful t → IsTrue (member (code t.terminal) ws) → 1 ≤ length t.spelling → F t (500 * length t.spelling)
 
-module _ (z : Setting) (ws : List ℕ) (F : Terminal → ℕ → Type 0) where
-  token_pays : member 0 ws ≡ false → OfToken ws F → (i : ℕ) (v : Terminal) (j : ℕ) → IsTrue (member (code ((z.tokens i).word)) ws) → v ≡ z.tokens i → j ≡ i + 1 → (n : ℕ) × F v n × (budget z.tokens i + n ≤ budget z.tokens j)
+module _ (z : Setting) (ws : List ℕ) (F : PlacedTerminal → ℕ → Type 0) where
+  token_pays : member 0 ws ≡ false → OfToken ws F → (i : ℕ) (v : PlacedTerminal) (j : ℕ) → IsTrue (member (code ((z.tokens i).terminal)) ws) → v ≡ z.tokens i → j ≡ i + 1 → (n : ℕ) × F v n × (budget z.tokens i + n ≤ budget z.tokens j)
   token_pays none h i v j m e e' = (
     500 * length ((z.tokens i).spelling),
     subst (λ t. F t (500 * length ((z.tokens i).spelling))) (sym e) (h (z.tokens i) (z.faithful i) m (has_byte (z.tokens i) (z.faithful i) ws none m)),
     subst (λ k. budget z.tokens i + 500 * length ((z.tokens i).spelling) ≤ budget z.tokens k) (sym e') (omega (arith, next_length z.tokens i)),
   )
 
-module _ {z : Setting} {ws : List ℕ} {F : Terminal → ℕ → Type 0} where
+module _ {z : Setting} {ws : List ℕ} {F : PlacedTerminal → ℕ → Type 0} where
   pub pays_one : member 0 ws ≡ false → OfToken ws F → Pays z (one ws) F
   pays_one none h = record { pays = λ outer i v j r. token_pays z ws F none h i v j r.0 r.1 r.2 }
 
@@ -129,21 +129,21 @@ module _ {z : Setting} {s : Sort} where
             let d = more outer turns (step c x x') (n + (b'.0 + a'.0)) m v j (k c x x' n b'.0 a'.0 o b'.1 a'.1) (subst (λ l. ReadsMore (stepped step) (ReadsThen (pair_of {A = Value s} {B = Value t}) (ReadsBy z.tokens z.cap z.reads g outer) (ReadsBy z.tokens z.cap z.reads f outer)) turns (stepped step c l) m v j) e r) in
             (d.0, d.1, omega (arith, b'.2, a'.2, d.2))
 
--- ---- words
+-- ---- lexemes
 
 module _ {z : Setting} {s : Sort} where
-  module _ {t u : Sort} {f : Form s} {g : Form t} {x : Value s → List Word} {y : Value t → List Word} {c : Value u → List Word} {k : Value s → Value t → Value u} where
-    pub pays_words : Pays z f (Of x) → Pays z g (Of y) → ((a : Value s) (b : Value t) → c (k a b) ≡ x a ++ y b) → Pays z (then_ {s = s} {t = t} {u = u} k f g) (Of c)
-    pays_words a b e = pays_then a b (λ v w m n h i. fit_is (e v w) (fit_both h i))
+  module _ {t u : Sort} {f : Form s} {g : Form t} {x : Value s → List Lexeme} {y : Value t → List Lexeme} {c : Value u → List Lexeme} {k : Value s → Value t → Value u} where
+    pub pays_lexemes : Pays z f (Of x) → Pays z g (Of y) → ((a : Value s) (b : Value t) → c (k a b) ≡ x a ++ y b) → Pays z (then_ {s = s} {t = t} {u = u} k f g) (Of c)
+    pays_lexemes a b e = pays_then a b (λ v w m n h i. fit_is (e v w) (fit_both h i))
 
-  module _ {t : Sort} {f : Form s} {g : Form t} {x : Value s → List Word} {y : Value t → List Word} where
+  module _ {t : Sort} {f : Form s} {g : Form t} {x : Value s → List Lexeme} {y : Value t → List Lexeme} where
     pub pays_pair : Pays z f (Of x) → Pays z g (Of y) → Pays z (f ⊗ g) (Of (λ v. x v.0 ++ y v.1))
-    pays_pair a b = pays_words a b (λ v w. refl)
+    pays_pair a b = pays_lexemes a b (λ v w. refl)
 
-  module _ {t : Sort} {f : Form s} {x : Value s → List Word} {c : Value t → List Word} {k : Value s → Value t} where
+  module _ {t : Sort} {f : Form s} {x : Value s → List Lexeme} {c : Value t → List Lexeme} {k : Value s → Value t} where
     pub pays_made : Pays z f (Of x) → ((a : Value s) → c (k a) ≡ x a) → Pays z (as_tree {s = s} {t = t} k f) (Of c)
     pays_made a e = pays_tree a (λ v n h. fit_is (e v) h)
 
-  module _ {f : Form s} {x : Value s → List Word} where
-    pub pays_optional : Pays z f (Of x) → Pays z (maybe f) (Of (words_if x))
+  module _ {f : Form s} {x : Value s → List Lexeme} where
+    pub pays_optional : Pays z f (Of x) → Pays z (maybe f) (Of (lexemes_if x))
     pays_optional a = pays_maybe a fit_nothing (λ v n h. h)

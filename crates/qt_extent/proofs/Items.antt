@@ -4,17 +4,17 @@ use Rattle.qt_tree.specs.declared.place.Place.{Place}
 use Rattle.qt_tree.specs.declared.program.Item.{Item}
 use Rattle.qt_tree.specs.declared.program.Item.TheVariants as i
 use Rattle.qt_tree.specs.declared.program.GateForm.{GateForm}
-use Rattle.qt_words.specs.declared.word.Word.TheVariants as w
+use Rattle.qt_terminals.specs.declared.terminal.Terminal.TheVariants as w
 use Rattle.qt_grammar.specs.Sorts.{Sort, Value, item_tail, item, label}
 use Rattle.qt_grammar.specs.Form.{Form, as_tree}
 use Rattle.qt_grammar.specs.Language.{ended, listed, names, or_none, some, include, interface, qubits, qubit_item, register_item, list, entry_form, array_item, gate_line_form, a_gate_line, gate_item, a_parameter, definition, statement_item, global, number_form, version_form, whole}
-use Rattle.qt_print.specs.Words.{Word, keyword, operator, comma}
+use Rattle.qt_print.specs.Lexemes.{Lexeme, keyword, operator, comma}
 use Rattle.qt_print.specs.Statements.{Line, sentence, all_lines}
-use Rattle.qt_print.specs.Programs.{number_word, version_lines, item_words, values_words, names_words, gate_barrier_words, gate_form_words, gate_statement_lines, qubit_words, parameter_words, item_lines, first_lines, program_lines}
+use Rattle.qt_print.specs.Programs.{number_lexeme, version_lines, item_lexemes, values_lexemes, names_lexemes, gate_barrier_lexemes, gate_form_lexemes, gate_statement_lines, qubit_lexemes, parameter_lexemes, item_lines, first_lines, program_lines}
 use Rattle.qt_print.proofs.Lines.{statement_is}
-use Rattle.qt_print.proofs.Items.{item-list_words, item-value_words}
+use Rattle.qt_print.proofs.Items.{item-list_lexemes, item-value_lexemes}
 use Rattle.qt_extent.proofs.Costs.{Paid, paid_both, paid_is, paid_more, paid_nothing, paid_sentence}
-use Rattle.qt_extent.proofs.Combinators.{Setting, Pays, Of, pays_any, pays_here, pays_tree, pays_either, pays_then, pays_maybe, pays_words, pays_made, pays_pair, pays_optional}
+use Rattle.qt_extent.proofs.Combinators.{Setting, Pays, Of, pays_any, pays_here, pays_tree, pays_either, pays_then, pays_maybe, pays_lexemes, pays_made, pays_pair, pays_optional}
 use Rattle.qt_extent.proofs.Tokens.{pays_behind, pays_parens, pays_brackets, pays_braces, pays_ended, pays_label, pays_number, pays_decimal, pays_quotation}
 use Rattle.qt_extent.proofs.Lists.{pays_separated, pays_or_none}
 use Rattle.qt_extent.proofs.Expressions.{pays_size, pays_scalar, pays_expression}
@@ -26,7 +26,7 @@ use Rattle.qt_extent.proofs.Statements.{pays_a_block, pays_form}
 abbrev ItemTail : ℕ → (Place → Item) → ℕ → Type 0
 ItemTail d tail n = (at : Place) → Paid d (item_lines (tail at)) n
 
-module _ {z : Setting} {s : Sort} {f : Form s} {x : Value s → List Word} where
+module _ {z : Setting} {s : Sort} {f : Form s} {x : Value s → List Lexeme} where
   pays_item_sentence : {k : Value s → Place → Item} → Pays z f (Of x) → ((v : Value s) (at : Place) → item_lines (k v at) ≡ sentence (x v)) → Pays z (as_tree {s = s} {t = item_tail} k (ended f)) (ItemTail z.level)
   pays_item_sentence a e = pays_tree (pays_ended a) (λ v n p at. paid_is (e v at) (paid_sentence (x v) p))
 
@@ -34,12 +34,12 @@ abbrev items_lines : List Item → List Line
 items_lines xs = all_lines (map item_lines xs)
 
 abbrev gate_form_lines : GateForm → List Line
-gate_form_lines x = sentence (gate_form_words x)
+gate_form_lines x = sentence (gate_form_lexemes x)
 
-pays_names : {z : Setting} → Pays z names (Of names_words)
+pays_names : {z : Setting} → Pays z names (Of names_lexemes)
 pays_names = pays_separated comma refl pays_label
 
-pays_any_names : {z : Setting} → Pays z (or_none {s = label} names) (Of names_words)
+pays_any_names : {z : Setting} → Pays z (or_none {s = label} names) (Of names_lexemes)
 pays_any_names = pays_or_none refl pays_names
 
 module _ {z : Setting} (h : Named z) where
@@ -55,7 +55,7 @@ module _ {z : Setting} (h : Named z) where
   pays_output : Items (interface w.Output i.Output)
   pays_output = pays_item_sentence (pays_behind (keyword (codes "output")) refl (pays_pair (pays_scalar h) pays_label)) (λ c at. refl)
 
-  pays_qubits : Pays z qubits (Of (λ v. qubit_words v.0 v.1))
+  pays_qubits : Pays z qubits (Of (λ v. qubit_lexemes v.0 v.1))
   pays_qubits = pays_behind (keyword (codes "qubit")) refl (pays_pair (pays_optional (pays_size h)) pays_label)
 
   pays_qubit_item : Items qubit_item
@@ -66,11 +66,11 @@ module _ {z : Setting} (h : Named z) where
 
   -- ---- arrays
 
-  pays_list : Pays z list (Of values_words)
+  pays_list : Pays z list (Of values_lexemes)
   pays_list = pays_braces h.of_entry
 
-  pub pays_entry : Pays z entry_form (Of item_words)
-  pays_entry = pays_either (pays_made pays_list item-list_words) (pays_made (pays_expression h) item-value_words)
+  pub pays_entry : Pays z entry_form (Of item_lexemes)
+  pays_entry = pays_either (pays_made pays_list item-list_lexemes) (pays_made (pays_expression h) item-value_lexemes)
 
   pays_array_item : Items array_item
   pays_array_item = pays_item_sentence (pays_behind (keyword (codes "array")) refl (pays_pair (pays_brackets h.of_array) (pays_pair pays_label (pays_optional (pays_behind (operator (codes "=")) refl pays_list))))) (λ c at. refl)
@@ -79,7 +79,7 @@ module _ {z : Setting} (h : Named z) where
 
   pays_gate_form : Pays z gate_line_form (OfLines z.level gate_form_lines)
   pays_gate_form = pays_either (pays_tree (pays_ended (pays_gate_call h)) (λ c n p. paid_sentence _ p))
-      (pays_tree (pays_ended (pays_behind (keyword (codes "barrier")) refl pays_any_names)) (λ c n p. paid_sentence (gate_barrier_words c) p))
+      (pays_tree (pays_ended (pays_behind (keyword (codes "barrier")) refl pays_any_names)) (λ c n p. paid_sentence (gate_barrier_lexemes c) p))
 
   pub pays_gate_line : Pays z a_gate_line (OfLines z.level gate_statement_lines)
   pays_gate_line = pays_then pays_here pays_gate_form (λ at x m n p q. paid_more q (omega arith))
@@ -89,8 +89,8 @@ module _ {z : Setting} (h : Named z) where
 
   -- ---- subroutines
 
-  pub pays_parameter : Pays z a_parameter (Of parameter_words)
-  pays_parameter = pays_either (pays_words (pays_scalar h) pays_label (λ x text. refl)) (pays_made pays_qubits (λ c. refl))
+  pub pays_parameter : Pays z a_parameter (Of parameter_lexemes)
+  pays_parameter = pays_either (pays_lexemes (pays_scalar h) pays_label (λ x text. refl)) (pays_made pays_qubits (λ c. refl))
 
   pays_definition : Items definition
   pays_definition = pays_tree (pays_headed (keyword (codes "def")) refl (pays_in_head pays_label (pays_in_head (pays_parens (pays_or_none refl h.of_parameters)) (pays_head (pays_optional (pays_behind (operator (codes "->")) refl (pays_scalar h))) (pays_a_block h))))) (λ c n p at. p)
@@ -104,12 +104,12 @@ module _ {z : Setting} (h : Named z) where
   pays_global = pays_then pays_here (pays_either pays_include (pays_either pays_input (pays_either pays_output (pays_either pays_qubit_item (pays_either pays_register_item (pays_either pays_array_item
       (pays_either pays_gate_item (pays_either pays_definition pays_statement_item)))))))) (λ at tail m n p q. paid_more (q at) (omega arith))
 
-  pays_version_number : Pays z number_form (Of (λ x. number_word x ∷ []))
+  pays_version_number : Pays z number_form (Of (λ x. number_lexeme x ∷ []))
   pays_version_number = pays_either (pays_made pays_number (λ t. refl)) (pays_made pays_decimal (λ t. refl))
 
   pays_version : Pays z version_form (OfLines z.level version_lines)
   pays_version = pays_then pays_here (pays_ended (pays_behind (keyword (codes "OPENQASM")) refl pays_version_number))
-      (λ at x m n p q. paid_more (paid_sentence (keyword (codes "OPENQASM") ∷ number_word x ∷ []) q) (omega arith))
+      (λ at x m n p q. paid_more (paid_sentence (keyword (codes "OPENQASM") ∷ number_lexeme x ∷ []) q) (omega arith))
 
   -- lines, or none
   abbrev Whole : {A : Type 0} → (A → List Line) → A → ℕ → Type 0

@@ -1,13 +1,13 @@
--- The forms with names, level by level, and the two laws: each printed word is spelled, and the text isn't long.
+-- The forms with names, level by level, and the two laws: each printed lexeme is spelled, and the text isn't long.
 use Rattle.std.proofs.Common.{ℕ, zero, suc, ◌+◌, ◌*◌, ◌≤◌, None, refl, arith}
 use Rattle.qt_tree.specs.declared.program.Program.{Program}
-use Rattle.qt_words.specs.Terminals.{Terminal}
+use Rattle.qt_terminals.specs.Terminals.{PlacedTerminal}
 use Rattle.qt_grammar.specs.Sorts.{Value, Name, sort, program, any, unary, block, single, an_index, a_range, a_set, an_entry, in_sizeof, in_array, parameters, gate_block}
 use Rattle.qt_grammar.specs.Form.{named}
 use Rattle.qt_grammar.specs.Language.{rule, whole}
 use Rattle.qt_grammar.specs.Reading.{ReadsTo}
 use Rattle.qt_grammar.specs.Promise.{Spells}
-use Rattle.qt_print.specs.Words.{comma}
+use Rattle.qt_print.specs.Lexemes.{comma}
 use Rattle.qt_print.specs.Programs.{program_lines}
 use Rattle.qt_wording.specs.Faithful.{IsFaithful, AreNumbersAgain, total_length}
 use Rattle.qt_extent.specs.Laws.{AreSpelled, IsShort}
@@ -20,7 +20,7 @@ use Rattle.qt_extent.proofs.Bodies.{Named, pays_body_lines, pays_alone}
 use Rattle.qt_extent.proofs.Statements.{pays_statement}
 use Rattle.qt_extent.proofs.Items.{pays_entry, pays_gate_line, pays_parameter, pays_whole}
 
-module _ (ts : ℕ → Terminal) (faithful : (i : ℕ) → IsFaithful (ts i)) (numbers : AreNumbersAgain) (cap : ℕ) where
+module _ (ts : ℕ → PlacedTerminal) (faithful : (i : ℕ) → IsFaithful (ts i)) (numbers : AreNumbersAgain) (cap : ℕ) where
   -- within so many levels
   abbrev at_level : ℕ → Setting
   at_level d = record { tokens = ts; faithful = faithful; numbers = numbers; cap = cap; level = d; reads = ReadsTo ts cap d }

@@ -1,9 +1,9 @@
-//! What holds of the words and the length of the canonical text. Each contract is a law; no function does anything.
+//! What holds of the lexemes and the length of the canonical text. Each contract is a law; no function does anything.
 
 ghost use Rattle.qt_extent.specs.Laws.{AreSpelled, IsShort};
 
-/// Each word that is printed of a program read from tokens is spelled as a token.
-pub fn words_are_spelled()
+/// Each lexeme that is printed of a program read from tokens is spelled as a token.
+pub fn lexemes_are_spelled()
     ensures { AreSpelled }
 {}
 

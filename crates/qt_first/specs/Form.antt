@@ -58,11 +58,11 @@ pub record IsWithinLimits (p : Program) : Type 0 where
   pub placed : ArePlaced p.qubits p.bits p.statements
 
 -- the text is that of the program, which is within the limits
-pub record IsTextOf (p : Program) (text : List ℕ) : Type 0 where
+pub record IsFirstFormText (p : Program) (text : List ℕ) : Type 0 where
   pub spelled : text ≡ program_text p
   pub limits : IsWithinLimits p
 
 -- what a reader tells of a text: the program whose text it is, or that it is the text of none
 abbrev pub Reads : List ℕ → Option Program → Type 0
-Reads text None = (p : Program) → ¬ IsTextOf p text
-Reads text (Some p) = IsTextOf p text
+Reads text None = (p : Program) → ¬ IsFirstFormText p text
+Reads text (Some p) = IsFirstFormText p text

@@ -9,9 +9,9 @@ use Rattle.qt_first.specs.declared.program.Statement.TheVariants.{ControlledX, M
 use Rattle.qt_first.specs.Form.{element, head_text, line, statement_text, IsPlaced}
 
 -- the text is the spelling of the value that was found; with none found, it is that of no fitting value
-abbrev pub Spells : {A : Type 0} → (A → Type 0) → (A → List ℕ) → List ℕ → Option A → Type 0
-Spells {A} IsFitting spelling text None = (value : A) → IsFitting value → text ≢ spelling value
-Spells IsFitting spelling text (Some value) = IsFitting value × (text ≡ spelling value)
+abbrev pub IsSpelledBy : {A : Type 0} → (A → Type 0) → (A → List ℕ) → List ℕ → Option A → Type 0
+IsSpelledBy {A} IsFitting spelling text None = (value : A) → IsFitting value → text ≢ spelling value
+IsSpelledBy IsFitting spelling text (Some value) = IsFitting value × (text ≡ spelling value)
 
 -- the text begins with the spelling of the value that was found, and the rest follows; with none found, it begins with that of no
 -- fitting value

@@ -10,7 +10,7 @@ ghost use Rattle.qt_first.specs.Pieces.{
   BeginsWith,
   IsSize,
   IsSized,
-  Spells,
+  IsSpelledBy,
   controlled_x_text,
   is_measurement,
   measurement_text,
@@ -74,7 +74,7 @@ fn statements(
     registers: Registers,
 ) -> Result<Option<Statements>, AllocError>
     requires { IsSized registers }
-    ensures { IfOk result (λ found. Spells (ArePlaced registers.qubits registers.bits)
+    ensures { IfOk result (λ found. IsSpelledBy (ArePlaced registers.qubits registers.bits)
         (flat_map statement_text) text.now found) }
 {
     let mut statements = Vec::new(alloc);

@@ -1,9 +1,9 @@
 -- What opens a form up to a place depends on the tokens before that place alone; and what opens it, opens it at each place on
 -- the way.
 use Rattle.std.proofs.Common.{◌≡◌, ℕ, zero, suc, ◌+◌, ◌≤◌, ◌<◌, ◌⊎◌, inl, inr, Bool, true, ◌&&◌, not, IsTrue, Option, refl, sym, subst, arith}
-use Rattle.qt_words.specs.Terminals.{Terminal}
+use Rattle.qt_terminals.specs.Terminals.{PlacedTerminal}
 use Rattle.qt_grammar.specs.Sorts.{Sort, Value, Name, sort}
-use Rattle.qt_grammar.specs.Form.{Form, one, operator, counted, here, empty, as_tree, then_, either, maybe, nearest, chain, named, member, word_at, begun, Reading, Opening, ReadsBy, OpensBy, ReadsThen, OpensThen, ReadsMore, OpensChain, pair_of, stepped}
+use Rattle.qt_grammar.specs.Form.{Form, one, operator, counted, here, empty, as_tree, then_, either, maybe, nearest, chain, named, member, terminal_at, begun, Reading, Opening, ReadsBy, OpensBy, ReadsThen, OpensThen, ReadsMore, OpensChain, pair_of, stepped}
 use Rattle.qt_grammar.specs.Lookahead.{first, nullable, first_of}
 use Rattle.qt_grammar.specs.Language.{rule}
 use Rattle.qt_grammar.specs.Reading.{ReadsTo, OpensTo}
@@ -65,7 +65,7 @@ left_good a b c h = and_left a b (and_left (a && b) c h)
 pub right_good : (a b c : Bool) → ((a && b) && c) ≡ true → b ≡ true
 right_good a b c h = and_right a b (and_left (a && b) c h)
 
-module _ (ts : ℕ → Terminal) (cap : ℕ) where
+module _ (ts : ℕ → PlacedTerminal) (cap : ℕ) where
   module _ (named_reads : (n : Name) → Option ℕ → Reading (Value (sort n))) (named_opens : (n : Name) → Option ℕ → Opening)
       (named_sane : (n : Name) (e : Option ℕ) → Sane ts (named_reads n e) (named_opens n e) (In (first_of n)) ⊥ (In (follow_of n)))
       (named_prefix : (n : Name) (e : Option ℕ) → Prefix (named_opens n e)) where
@@ -86,7 +86,7 @@ module _ (ts : ℕ → Terminal) (cap : ℕ) where
     prefix_here i j k e a b = omega (arith, e, a, b)
 
     pub prefix_form : {s : Sort} (f : Form s) → good f ≡ true → (e : Option ℕ) → Prefix (O f e)
-    prefix_form (one ws) h e i j k o a b = prefix_one (IsTrue (member (word_at ts i) ws)) i j k o a b
+    prefix_form (one ws) h e i j k o a b = prefix_one (IsTrue (member (terminal_at ts i) ws)) i j k o a b
     prefix_form (operator ws) h e i j k (inl o) a b = inl (prefix_here i j k o a b)
     prefix_form (operator ws) h e i j k (inr o) a b = elim (same_or_before i k a) [ inl z ↦ inl (sym z) | inr lt ↦ inr (omega (arith, o.0, lt, b), o.1, o.2) ]
     prefix_form (counted f) h e i j k o a b = prefix_form f h (begun ts e i) i j k o a b

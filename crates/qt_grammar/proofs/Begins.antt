@@ -1,11 +1,11 @@
--- Whether another word in the place of a refused token would be read there.
+-- Whether another terminal in the place of a refused token would be read there.
 use Rattle.std.proofs.Common.{◌≡◌, ◌≢◌, ℕ, suc, ◌+◌, ◌≤◌, ◌<◌, inl, inr, Bool, true, false, List, length, Option, None, Result, Ok, Err, refl, sym, ◌∙◌, ap, subst, arith}
-use Rattle.qt_words.specs.declared.word.Word.TheVariants as w
-use Rattle.qt_words.specs.Terminals.{Terminal, stream, with_word}
+use Rattle.qt_terminals.specs.declared.terminal.Terminal.TheVariants as w
+use Rattle.qt_terminals.specs.Terminals.{PlacedTerminal, stream, with_terminal}
 use Rattle.qt_grammar.specs.declared.refusal.Refusal.{Refusal}
 use Rattle.qt_grammar.specs.declared.refusal.Refusal.TheVariants.{Syntax, Nest, OutOfMemory}
 use Rattle.qt_grammar.specs.Sorts.{Sort, Value, program}
-use Rattle.qt_grammar.specs.Form.{Form, one, operator, counted, here, empty, as_tree, then_, either, maybe, nearest, chain, named, word_at}
+use Rattle.qt_grammar.specs.Form.{Form, one, operator, counted, here, empty, as_tree, then_, either, maybe, nearest, chain, named, terminal_at}
 use Rattle.qt_grammar.specs.Outcome.{Outcome, Tells}
 use Rattle.qt_grammar.specs.Reading.{Limits}
 use Rattle.qt_grammar.proofs.Lists.{reading, past, same_before}
@@ -37,7 +37,7 @@ ends_by_token (chain a b f g) = false
 ends_by_token (named n) = false
 
 -- two streams that agree before place n
-module _ (n : ℕ) (ts ts' : ℕ → Terminal) (agree : (k : ℕ) → k < n → ts k ≡ ts' k) where
+module _ (n : ℕ) (ts ts' : ℕ → PlacedTerminal) (agree : (k : ℕ) → k < n → ts k ≡ ts' k) where
   module _ (cap d : ℕ) where
     reads_on : {s : Sort} (f : Form s) → good f ≡ true → (e : Option ℕ) (i : ℕ) (v : Value s) (j : ℕ) → Reads ts cap d f e i v j → i ≤ j
     reads_on f h e i v j r = reads-ahead ts (Reads ts cap d f e) (Opens ts cap d f e) (In (first f)) (nullable f ≡ true) (In (follow f)) (sound_form ts cap d f h e) i v j r
@@ -62,7 +62,7 @@ module _ (n : ℕ) (ts ts' : ℕ → Terminal) (agree : (k : ℕ) → k < n → 
     pub closed_alike : {s : Sort} (f : Form s) → good f ≡ true → ends_by_token f ≡ true → (e : Option ℕ) (i : ℕ) (v : Value s) (j : ℕ) → j ≤ n → Reads ts cap d f e i v j → Reads ts' cap d f e i v j
     closed_alike (one ws) h z e i v j le r =
         let q : ts i ≡ ts' i = agree i (omega (arith, r.2, le)) in
-        (subst (λ (t : Terminal). In ws (word_at (λ k. t) i)) q r.0, r.1 ∙ q, r.2)
+        (subst (λ (t : PlacedTerminal). In ws (terminal_at (λ k. t) i)) q r.0, r.1 ∙ q, r.2)
     closed_alike (as_tree k f) h z e i v j le r = (r.0, closed_alike f h z e i r.0 j le r.1, r.2)
     closed_alike (then_ k f g) h z e i v j le r =
         let gf : good f ≡ true = left_good (good f) (good g) _ h in
@@ -80,7 +80,7 @@ module _ (n : ℕ) (ts ts' : ℕ → Terminal) (agree : (k : ℕ) → k < n → 
     closed_alike (named m) h z e i v j le r = absurd (cc z)
 
 -- the first stream is refused at place n; does the second one open the form with one token more?
-module _ (n : ℕ) (ts ts' : ℕ → Terminal) (agree : (k : ℕ) → k < n → ts k ≡ ts' k) (turns : ℕ) (last : (i : ℕ) → turns ≤ i → word_at ts i ≡ 0) (turns' : ℕ) (last' : (i : ℕ) → turns' ≤ i → word_at ts' i ≡ 0)
+module _ (n : ℕ) (ts ts' : ℕ → PlacedTerminal) (agree : (k : ℕ) → k < n → ts k ≡ ts' k) (turns : ℕ) (last : (i : ℕ) → turns ≤ i → terminal_at ts i ≡ 0) (turns' : ℕ) (last' : (i : ℕ) → turns' ≤ i → terminal_at ts' i ≡ 0)
     (l : Limits) (s : Sort) (f : Form s) (g : good f ≡ true) (e : Option ℕ) (i : ℕ) (refused : W ts turns last l.operators l.levels f e i ≡ Err (Syntax n)) where
   abbrev On : Outcome (Value s) → Type 0
   On out = W ts' turns' last' l.operators l.levels f e i ≡ out
@@ -133,7 +133,7 @@ module _ (n : ℕ) (ts ts' : ℕ → Terminal) (agree : (k : ℕ) → k < n → 
         ]
     begins (Err OutOfMemory) h ne m = absurd (m refl)
 
--- ---- a program that was refused, read again with the word `barrier` at that place
+-- ---- a program that was refused, read again with the terminal `barrier` at that place
 
 -- what is told of a refusal
 told : {A : Type 0} (out : Outcome A) (r : Result A Refusal) → Tells out r → r ≢ Err OutOfMemory → (x : Refusal) → out ≡ Err x → r ≡ Err x
@@ -147,12 +147,12 @@ told {A} out (Err e) h m x q = same (sym (h (λ z. m (ap (λ t. let o : Result A
     same h = ap (λ (o : Outcome A). elim o as (λ _. Result A Refusal) [ Ok z ↦ Err e | Err y ↦ Err y ]) h
 
 -- the whole of a program, as the parser reads it
-abbrev pub Program-of : List Terminal → Limits → Outcome (Value program)
+abbrev pub Program-of : List PlacedTerminal → Limits → Outcome (Value program)
 Program-of all l = reading all l whole None 0
 
-module _ (all : List Terminal) (l : Limits) (n : ℕ) (refused : Program-of all l ≡ Err (Syntax n)) where
-  abbrev changed : List Terminal
-  changed = with_word all n w.Barrier
+module _ (all : List PlacedTerminal) (l : Limits) (n : ℕ) (refused : Program-of all l ≡ Err (Syntax n)) where
+  abbrev changed : List PlacedTerminal
+  changed = with_terminal all n w.Barrier
 
   could_begin-out : (out : Outcome (Value program)) → Program-of changed l ≡ out → out ≢ Err (Syntax n) → out ≢ Err OutOfMemory → CouldBegin all n
   unfolding reading

@@ -1,16 +1,16 @@
 -- With larger limits what was read is read again, and where a limit was met one more token is taken.
 use Rattle.std.proofs.Common.{◌≡◌, ℕ, zero, suc, ◌+◌, ◌≤◌, ◌<◌, ◌⊎◌, inl, inr, Bool, true, false, ◌&&◌, ◌||◌, not, cond, List, ◌++◌, Option, Some, None, Ok, Err, refl, sym, ap, subst, arith}
 use Rattle.std.proofs.lemmas.Bool.{lt-ltb, ltb-true}
-use Rattle.qt_words.specs.Terminals.{Terminal}
+use Rattle.qt_terminals.specs.Terminals.{PlacedTerminal}
 use Rattle.qt_grammar.specs.declared.refusal.Refusal.TheVariants.{Syntax, Nest}
 use Rattle.qt_grammar.specs.Sorts.{Sort, Value, Name, sort}
-use Rattle.qt_grammar.specs.Form.{Form, one, operator, counted, here, empty, as_tree, then_, either, maybe, nearest, chain, named, member, word_at, begun, within, Reading, Opening, ReadsBy, OpensBy, ReadsThen, OpensThen, ReadsMore, pair_of, stepped}
+use Rattle.qt_grammar.specs.Form.{Form, one, operator, counted, here, empty, as_tree, then_, either, maybe, nearest, chain, named, member, terminal_at, begun, within, Reading, Opening, ReadsBy, OpensBy, ReadsThen, OpensThen, ReadsMore, pair_of, stepped}
 use Rattle.qt_grammar.specs.Outcome.{Outcome, and_then, more_of}
 use Rattle.qt_grammar.specs.Lookahead.{first, nullable, joined, first_of}
 use Rattle.qt_grammar.specs.Reading.{run, rest_of}
 use Rattle.qt_grammar.proofs.LookaheadTests.{In, apart, subset, first_item, subset_sound, and_left, and_right, not_true, in_joined, joined_in, good, direct}
 
-module _ (ts : ℕ → Terminal) where
+module _ (ts : ℕ → PlacedTerminal) where
   -- ---- relations grow
 
   more_up : {B C : Type 0} (step : C → B → C) (q q' : Reading B) → ((i : ℕ) (v : B) (j : ℕ) → q i v j → q' i v j) → (n : ℕ) (c : C) (i : ℕ) (v : C) (j : ℕ) → ReadsMore step q n c i v j → ReadsMore step q' n c i v j
@@ -95,7 +95,7 @@ module _ (ts : ℕ → Terminal) where
     abbrev Y : {s : Sort} → Form s → Option ℕ → ℕ → Outcome (Value s)
     Y f e i = run ts cap' turns p' f e i
 
-    calm_within : (e : Option ℕ) (i n : ℕ) (out : Outcome Terminal) → Calm (cond (within cap e n) out (Err (Nest i))) (cond (within cap' e n) out (Err (Nest i)))
+    calm_within : (e : Option ℕ) (i n : ℕ) (out : Outcome PlacedTerminal) → Calm (cond (within cap e n) out (Err (Nest i))) (cond (within cap' e n) out (Err (Nest i)))
     calm_within e i n out = at_test (within cap e n) refl
       where
         at_test : (b : Bool) → within cap e n ≡ b → Calm (cond b out (Err (Nest i))) (cond (within cap' e n) out (Err (Nest i)))
@@ -104,18 +104,18 @@ module _ (ts : ℕ → Terminal) where
 
     pub calm_form : {s : Sort} (f : Form s) (e : Option ℕ) (i : ℕ) → Calm (X f e i) (Y f e i)
     calm_form (one ws) e i = inr refl
-    calm_form (operator ws) e i = calm_cond (member (word_at ts i) ws) _ _ _ _ (calm_within e i ((ts i).operators) (Ok (ts i, i + 1))) (inr refl)
+    calm_form (operator ws) e i = calm_cond (member (terminal_at ts i) ws) _ _ _ _ (calm_within e i ((ts i).operators) (Ok (ts i, i + 1))) (inr refl)
     calm_form (counted f) e i = calm_form f (begun ts e i) i
     calm_form here e i = inr refl
     calm_form (empty x) e i = inr refl
     calm_form (as_tree k f) e i = calm_then (X f e i) (Y f e i) _ _ (calm_form f e i) (λ x m. inr refl)
     calm_form (then_ k f g) e i = calm_then (X f e i) (Y f e i) _ _ (calm_form f e i) (λ x m. calm_then (X g e m) (Y g e m) _ _ (calm_form g e m) (λ y j. inr refl))
-    calm_form (either f g) e i = calm_cond (member (word_at ts i) (first f)) (X f e i) (Y f e i) (X g e i) (Y g e i) (calm_form f e i) (calm_form g e i)
-    calm_form (maybe f) e i = calm_cond (member (word_at ts i) (first f)) _ _ _ _ (calm_then (X f e i) (Y f e i) _ _ (calm_form f e i) (λ x m. inr refl)) (inr refl)
-    calm_form (nearest ws f) e i = calm_cond (member (word_at ts i) ws) _ _ _ _ (calm_then (X f e i) (Y f e i) _ _ (calm_form f e i) (λ x m. inr refl)) (inr refl)
+    calm_form (either f g) e i = calm_cond (member (terminal_at ts i) (first f)) (X f e i) (Y f e i) (X g e i) (Y g e i) (calm_form f e i) (calm_form g e i)
+    calm_form (maybe f) e i = calm_cond (member (terminal_at ts i) (first f)) _ _ _ _ (calm_then (X f e i) (Y f e i) _ _ (calm_form f e i) (λ x m. inr refl)) (inr refl)
+    calm_form (nearest ws f) e i = calm_cond (member (terminal_at ts i) ws) _ _ _ _ (calm_then (X f e i) (Y f e i) _ _ (calm_form f e i) (λ x m. inr refl)) (inr refl)
     calm_form (chain a b f g) e i =
         calm_then (X f e i) (Y f e i) _ _ (calm_form f e i)
-        (λ x m. calm_more (λ i. member (word_at ts i) (joined (first g) (nullable g) (first f))) (stepped b) _ _
+        (λ x m. calm_more (λ i. member (terminal_at ts i) (joined (first g) (nullable g) (first f))) (stepped b) _ _
         (λ i. calm_then (X g e i) (Y g e i) _ _ (calm_form g e i) (λ y m. calm_then (X f e m) (Y f e m) _ _ (calm_form f e m) (λ x j. inr refl))) turns (a x) m)
     calm_form (named n) e i = calm n e i
 
@@ -158,14 +158,14 @@ module _ (ts : ℕ → Terminal) where
       at_test true e = let w : member n xs ≡ true = subset_sound ws xs s n e in absurd (cc (w, h))
       at_test false e = refl
 
-  module _ (cap turns : ℕ) (p : (n : Name) → Option ℕ → ℕ → Outcome (Value (sort n))) (refuses : (n : Name) (e : Option ℕ) (i : ℕ) → member (word_at ts i) (first_of n) ≡ false → p n e i ≡ Err (Syntax i)) where
+  module _ (cap turns : ℕ) (p : (n : Name) → Option ℕ → ℕ → Outcome (Value (sort n))) (refuses : (n : Name) (e : Option ℕ) (i : ℕ) → member (terminal_at ts i) (first_of n) ≡ false → p n e i ≡ Err (Syntax i)) where
     abbrev Z : {s : Sort} → Form s → Option ℕ → ℕ → Outcome (Value s)
     Z f e i = run ts cap turns p f e i
 
     abbrev Refuses : {s : Sort} → Form s → Option ℕ → ℕ → Type 0
     Refuses {s} f o i = ((nullable f ≡ true) × ((x : Value s) × (Z f o i ≡ Ok (x, i)))) ⊎ ((nullable f ≡ false) × (Z f o i ≡ Err (Syntax i)))
 
-    pub refuses_form : {s : Sort} (f : Form s) (o : Option ℕ) (i : ℕ) → good f ≡ true → member (word_at ts i) (first f) ≡ false → Refuses f o i
+    pub refuses_form : {s : Sort} (f : Form s) (o : Option ℕ) (i : ℕ) → good f ≡ true → member (terminal_at ts i) (first f) ≡ false → Refuses f o i
     refuses_form (one ws) o i g h = inr (refl, rw h refl)
     refuses_form (operator ws) o i g h = inr (refl, rw h refl)
     refuses_form (counted f) o i g h = refuses_form f (begun ts o i) i g h
@@ -178,7 +178,7 @@ module _ (ts : ℕ → Terminal) where
     refuses_form (then_ k f g) o i t h =
         let gf : good f ≡ true = and_left (good f) (good g) (and_left (good f && good g) _ t) in
         let gg : good g ≡ true = and_right (good f) (good g) (and_left (good f && good g) _ t) in
-        let n = not_in (first f) (nullable f) (first g) (word_at ts i) h in
+        let n = not_in (first f) (nullable f) (first g) (terminal_at ts i) h in
         elim (refuses_form f o i gf n.0) [
           | inl e ↦
               elim (refuses_form g o i gg (n.1 e.0)) [
@@ -191,13 +191,13 @@ module _ (ts : ℕ → Terminal) where
         let gf : good f ≡ true = and_left (good f) (good g) (and_left (good f && good g) _ t) in
         let gg : good g ≡ true = and_right (good f) (good g) (and_left (good f && good g) _ t) in
         let u : ((not (nullable f) && not (nullable g)) && apart (first f) (first g)) ≡ true = and_right (good f && good g) _ t in
-        let n = not_in_append (first f) (first g) (word_at ts i) h in
+        let n = not_in_append (first f) (first g) (terminal_at ts i) h in
         elim (refuses_form g o i gg n.1) [
           | inl e ↦ absurd (not_true (nullable g) (and_right (not (nullable f)) (not (nullable g)) (and_left _ (apart (first f) (first g)) u)) e.0)
           | inr e ↦ inr (refl, rw (n.0, e.1) refl)
         ]
     refuses_form (maybe f) o i t h = inl (refl, (None, rw h refl))
-    refuses_form (nearest ws f) o i t h = inl (refl, (None, rw (outside ws (first f) (word_at ts i) (and_right (subset (first f) ws) (subset ws (first f)) (and_right (good f && not (nullable f)) (subset (first f) ws && subset ws (first f)) t)) h) refl))
+    refuses_form (nearest ws f) o i t h = inl (refl, (None, rw (outside ws (first f) (terminal_at ts i) (and_right (subset (first f) ws) (subset ws (first f)) (and_right (good f && not (nullable f)) (subset (first f) ws && subset ws (first f)) t)) h) refl))
     refuses_form (chain a b f g) o i t h =
         let gf : good f ≡ true = and_left (good f) (good g) (and_left (good f && good g) _ t) in
         elim (refuses_form f o i gf h) [
@@ -214,7 +214,7 @@ module _ (ts : ℕ → Terminal) where
   room cap (Some c) n h = lt-ltb n (c + cap) (omega (arith, h))
 
   module _ (cap : ℕ) (r : (n : Name) → Option ℕ → Reading (Value (sort n))) (o : (n : Name) → Option ℕ → Opening) where
-    rests : {s : Sort} (f : Form s) (e : Option ℕ) (i : ℕ) → direct f ≡ true → nullable f ≡ true → member (word_at ts i) (first f) ≡ false → (x : Value s) × ReadsBy ts cap r f e i x i
+    rests : {s : Sort} (f : Form s) (e : Option ℕ) (i : ℕ) → direct f ≡ true → nullable f ≡ true → member (terminal_at ts i) (first f) ≡ false → (x : Value s) × ReadsBy ts cap r f e i x i
     rests (one ws) e i d n h = absurd (cc n)
     rests (operator ws) e i d n h = absurd (cc n)
     rests (counted f) e i d n h = rests f (begun ts e i) i d n h
@@ -222,34 +222,34 @@ module _ (ts : ℕ → Terminal) where
     rests (empty x) e i d n h = (x, (refl, refl))
     rests (as_tree k f) e i d n h = let u = rests f e i d n h in (k u.0, (u.0, u.1, refl))
     rests (then_ k f g) e i d n h =
-        let w = not_in (first f) (nullable f) (first g) (word_at ts i) h in
+        let w = not_in (first f) (nullable f) (first g) (terminal_at ts i) h in
         let nf : nullable f ≡ true = and_left (nullable f) (nullable g) n in
         let u = rests f e i (and_left (direct f) _ d) nf w.0 in
         let v = rests g e i (second (nullable f) (direct g) nf (and_right (direct f) _ d)) (and_right (nullable f) (nullable g) n) (w.1 nf) in
         (k u.0 v.0, (u.0, v.0, i, u.1, v.1, refl))
     rests (either f g) e i d n h = absurd (cc n)
     rests (maybe f) e i d n h = (None, inr (refl, refl))
-    rests (nearest ws f) e i d n h = (None, inr (refl, refl, outside ws (first f) (word_at ts i) (and_right (direct f) (subset ws (first f)) d) h))
+    rests (nearest ws f) e i d n h = (None, inr (refl, refl, outside ws (first f) (terminal_at ts i) (and_right (direct f) (subset ws (first f)) d) h))
     rests (chain a b f g) e i d n h = absurd (cc n)
     rests (named n) e i d z h = absurd (cc z)
 
-    pub starts : {s : Sort} (f : Form s) (e : Option ℕ) (i : ℕ) → (ts i).operators < cap → direct f ≡ true → In (first f) (word_at ts i) → OpensBy ts cap r o f e i (i + 1)
+    pub starts : {s : Sort} (f : Form s) (e : Option ℕ) (i : ℕ) → (ts i).operators < cap → direct f ≡ true → In (first f) (terminal_at ts i) → OpensBy ts cap r o f e i (i + 1)
     starts (one ws) e i big d w = inr (refl, w)
     starts (operator ws) e i big d w = inr (refl, w, room cap e ((ts i).operators) big)
     starts (counted f) e i big d w = starts f (begun ts e i) i big d w
     starts here e i big d w = absurd (cc w)
     starts (empty x) e i big d w = absurd (cc w)
     starts (as_tree k f) e i big d w = starts f e i big d w
-    starts (then_ k f g) e i big d w = at_test (member (word_at ts i) (first f)) refl (λ u. starts f e i big (and_left (direct f) _ d) u) (λ u t. starts g e i big (second (nullable f) (direct g) t (and_right (direct f) _ d)) u)
+    starts (then_ k f g) e i big d w = at_test (member (terminal_at ts i) (first f)) refl (λ u. starts f e i big (and_left (direct f) _ d) u) (λ u t. starts g e i big (second (nullable f) (direct g) t (and_right (direct f) _ d)) u)
       where
-        at_test : (v : Bool) → member (word_at ts i) (first f) ≡ v → (In (first f) (word_at ts i) → OpensBy ts cap r o f e i (i + 1)) → (In (first g) (word_at ts i) → nullable f ≡ true → OpensBy ts cap r o g e i (i + 1))
+        at_test : (v : Bool) → member (terminal_at ts i) (first f) ≡ v → (In (first f) (terminal_at ts i) → OpensBy ts cap r o f e i (i + 1)) → (In (first g) (terminal_at ts i) → nullable f ≡ true → OpensBy ts cap r o g e i (i + 1))
             → OpensThen (ReadsBy ts cap r f e) (OpensBy ts cap r o f e) (OpensBy ts cap r o g e) i (i + 1)
         at_test true z left right = inl (left z)
-        at_test false z left right = elim (joined_in (first f) (nullable f) (first g) (word_at ts i) w) [
+        at_test false z left right = elim (joined_in (first f) (nullable f) (first g) (terminal_at ts i) w) [
           | inl u ↦ absurd (cc (u, z))
           | inr u ↦ let x = rests f e i (and_left (direct f) _ d) u.0 z in inr (x.0, i, x.1, right u.1 u.0)
         ]
-    starts (either f g) e i big d w = elim (joined_in (first f) true (first g) (word_at ts i) w) [
+    starts (either f g) e i big d w = elim (joined_in (first f) true (first g) (terminal_at ts i) w) [
       | inl u ↦ inl (starts f e i big (and_left (direct f) (direct g) d) u)
       | inr u ↦ inr (starts g e i big (and_right (direct f) (direct g) d) u.1)
     ]
@@ -295,14 +295,14 @@ module _ (ts : ℕ → Terminal) where
     OpensItem f g e = OpensThen (R' g e) (O' g e) (O' f e)
 
     onward_operator : (ws : List ℕ) (e : Option ℕ) (i : ℕ) → V (operator ws) e i ≡ Err (Nest j) → O' (operator ws) e i (j + 1)
-    onward_operator ws e i h = at_test (member (word_at ts i) ws) (within cap e ((ts i).operators)) refl h
+    onward_operator ws e i h = at_test (member (terminal_at ts i) ws) (within cap e ((ts i).operators)) refl h
       where
-        same : i ≡ j → member (word_at ts i) ws ≡ true → O' (operator ws) e i (j + 1)
+        same : i ≡ j → member (terminal_at ts i) ws ≡ true → O' (operator ws) e i (j + 1)
         same z w = inr (ap (λ t. t + 1) (sym z), w, room cap' e ((ts i).operators) (subst (λ t. (ts t).operators < cap') (sym z) big))
 
-        at_test : (v u : Bool) → member (word_at ts i) ws ≡ v → cond {A = Outcome Terminal} v (cond u (Ok (ts i, i + 1)) (Err (Nest i))) (Err (Syntax i)) ≡ Err (Nest j) → O' (operator ws) e i (j + 1)
+        at_test : (v u : Bool) → member (terminal_at ts i) ws ≡ v → cond {A = Outcome PlacedTerminal} v (cond u (Ok (ts i, i + 1)) (Err (Nest i))) (Err (Syntax i)) ≡ Err (Nest j) → O' (operator ws) e i (j + 1)
         at_test true true w h = absurd (cc h)
-        at_test true false w h = same (ap (λ (o : Outcome Terminal). elim o as (λ _. ℕ) [ Ok z ↦ 0 | Err (Nest k) ↦ k | Err _ ↦ 0 ]) h) w
+        at_test true false w h = same (ap (λ (o : Outcome PlacedTerminal). elim o as (λ _. ℕ) [ Ok z ↦ 0 | Err (Nest k) ↦ k | Err _ ↦ 0 ]) h) w
         at_test false u w h = absurd (cc h)
 
     onward_item : {s t : Sort} (f : Form s) (g : Form t) (e : Option ℕ) → good g ≡ true → Onward f e → Onward g e → (i : ℕ) → item f g e i ≡ Err (Nest j) → OpensItem f g e i (j + 1)
@@ -342,9 +342,9 @@ module _ (ts : ℕ → Terminal) where
         at_test false rest h = absurd (cc h)
 
     pub onward : {s : Sort} (f : Form s) → good f ≡ true → (e : Option ℕ) → Onward f e
-    onward (one ws) t e i h = at_test (member (word_at ts i) ws) h
+    onward (one ws) t e i h = at_test (member (terminal_at ts i) ws) h
       where
-        at_test : (v : Bool) → cond {A = Outcome Terminal} v (Ok (ts i, i + 1)) (Err (Syntax i)) ≡ Err (Nest j) → O' (one ws) e i (j + 1)
+        at_test : (v : Bool) → cond {A = Outcome PlacedTerminal} v (Ok (ts i, i + 1)) (Err (Syntax i)) ≡ Err (Nest j) → O' (one ws) e i (j + 1)
         at_test true h = absurd (cc h)
         at_test false h = absurd (cc h)
     onward (operator ws) t e i h = onward_operator ws e i h
@@ -365,17 +365,17 @@ module _ (ts : ℕ → Terminal) where
     onward (either f g) t e i h =
         let gf : good f ≡ true = and_left (good f) (good g) (and_left (good f && good g) _ t) in
         let gg : good g ≡ true = and_right (good f) (good g) (and_left (good f && good g) _ t) in
-        at_test (member (word_at ts i) (first f)) (onward f gf e i) (onward g gg e i) h
+        at_test (member (terminal_at ts i) (first f)) (onward f gf e i) (onward g gg e i) h
       where
         at_test : (v : Bool) → (V f e i ≡ Err (Nest j) → O' f e i (j + 1)) → (V g e i ≡ Err (Nest j) → O' g e i (j + 1)) → cond v (V f e i) (V g e i) ≡ Err (Nest j) → O' f e i (j + 1) ⊎ O' g e i (j + 1)
         at_test true a b h = inl (a h)
         at_test false a b h = inr (b h)
-    onward (maybe f) t e i h = at_test (member (word_at ts i) (first f)) (onward f (and_left (good f) _ t) e i) h
+    onward (maybe f) t e i h = at_test (member (terminal_at ts i) (first f)) (onward f (and_left (good f) _ t) e i) h
       where
         at_test : (v : Bool) → (V f e i ≡ Err (Nest j) → O' f e i (j + 1)) → cond v (and_then (V f e i) (λ x j. Ok (Some x, j))) (Ok (None, i)) ≡ Err (Nest j) → O' f e i (j + 1)
         at_test true a h = elim (and_nest (V f e i) (λ x j. Ok (Some x, j)) j h) [ inl z ↦ a z | inr z ↦ absurd (cc z.2) ]
         at_test false a h = absurd (cc h)
-    onward (nearest ws f) t e i h = at_test (member (word_at ts i) ws) (onward f (and_left (good f) _ (and_left (good f && not (nullable f)) (subset (first f) ws && subset ws (first f)) t)) e i) h
+    onward (nearest ws f) t e i h = at_test (member (terminal_at ts i) ws) (onward f (and_left (good f) _ (and_left (good f && not (nullable f)) (subset (first f) ws && subset ws (first f)) t)) e i) h
       where
         at_test : (v : Bool) → (V f e i ≡ Err (Nest j) → O' f e i (j + 1)) → cond v (and_then (V f e i) (λ x j. Ok (Some x, j))) (Ok (None, i)) ≡ Err (Nest j) → O' f e i (j + 1)
         at_test true a h = elim (and_nest (V f e i) (λ x j. Ok (Some x, j)) j h) [ inl z ↦ a z | inr z ↦ absurd (cc z.2) ]
@@ -383,10 +383,10 @@ module _ (ts : ℕ → Terminal) where
     onward (chain a b f g) t e i h =
         let gf : good f ≡ true = and_left (good f) (good g) (and_left (good f && good g) _ t) in
         let gg : good g ≡ true = and_right (good f) (good g) (and_left (good f && good g) _ t) in
-        elim (and_nest (V f e i) (λ x m. rest_of (λ i. member (word_at ts i) (joined (first g) (nullable g) (first f))) b (V f e) (V g e) turns (a x) m) j h) [
+        elim (and_nest (V f e i) (λ x m. rest_of (λ i. member (terminal_at ts i) (joined (first g) (nullable g) (first f))) b (V f e) (V g e) turns (a x) m) j h) [
           | inl z ↦ inl (onward f gf e i z)
           | inr z ↦
-              let y = onward_more _ _ _ b f g e gf gg (onward f gf e) (onward g gg e) (λ i. member (word_at ts i) (joined (first g) (nullable g) (first f))) turns (a z.0.0) z.0.1 z.2 in
+              let y = onward_more _ _ _ b f g e gf gg (onward f gf e) (onward g gg e) (λ i. member (terminal_at ts i) (joined (first g) (nullable g) (first f))) turns (a z.0.0) z.0.1 z.2 in
               inr (y.1, y.2, (z.0.0, z.0.1, y.0, reads _ f e i z.0 gf z.1, y.3), y.4)
         ]
     onward (named n) t e i h = nests n e i h

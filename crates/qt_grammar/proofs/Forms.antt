@@ -1,9 +1,9 @@
 -- Each form of a tested grammar is read from the left.
 use Rattle.std.proofs.Common.{◌≡◌, ℕ, ◌+◌, ◌≤◌, ◌<◌, ◌⊎◌, inl, inr, Bool, true, false, ◌&&◌, not, cond, List, [], ◌++◌, Option, Some, None, Ok, Err, refl, sym, ◌∙◌, ap, subst, arith}
-use Rattle.qt_words.specs.Terminals.{Terminal}
+use Rattle.qt_terminals.specs.Terminals.{PlacedTerminal}
 use Rattle.qt_grammar.specs.declared.refusal.Refusal.TheVariants.{Syntax, Nest, OutOfMemory}
 use Rattle.qt_grammar.specs.Sorts.{Sort, Value, Name, sort}
-use Rattle.qt_grammar.specs.Form.{Form, one, operator, counted, here, empty, as_tree, then_, either, maybe, nearest, chain, named, member, word_at, begun, within, Reading, Opening, ReadsOne, OpensOne, ReadsOperator, OpensOperator, ReadsBy, OpensBy, ReadsThen, OpensThen, pair_of, stepped}
+use Rattle.qt_grammar.specs.Form.{Form, one, operator, counted, here, empty, as_tree, then_, either, maybe, nearest, chain, named, member, terminal_at, begun, within, Reading, Opening, ReadsOne, OpensOne, ReadsOperator, OpensOperator, ReadsBy, OpensBy, ReadsThen, OpensThen, pair_of, stepped}
 use Rattle.qt_grammar.specs.Outcome.{Outcome, and_then, more_of}
 use Rattle.qt_grammar.specs.Lookahead.{first, nullable, joined, first_of}
 use Rattle.qt_grammar.specs.Reading.{run}
@@ -11,7 +11,7 @@ use Rattle.qt_grammar.proofs.Sane.{Sane, sane-then, sane-items, sane-either, san
 use Rattle.qt_grammar.proofs.Munch.{Found, Held, Gives, gives_weaker, gives-then, gives-items, gives-more}
 use Rattle.qt_grammar.proofs.LookaheadTests.{In, apart, subset, apart_sound, subset_sound, and_left, and_right, not_true, in_left, in_right, in_joined, follow, follow_of, first_item, good}
 
-module _ (ts : ℕ → Terminal) where
+module _ (ts : ℕ → PlacedTerminal) where
   abbrev pub Sound : {A : Type 0} → Reading A → Opening → List ℕ → Bool → List ℕ → Type 0
   Sound r o f n m = Sane ts r o (In f) (n ≡ true) (In m)
 
@@ -117,16 +117,16 @@ module _ (ts : ℕ → Terminal) where
         (λ n h. elim h [ inl t ↦ in_left pf qf n t | inr t ↦ in_right pf qf n t ]) (λ e. absurd e) (λ n h. elim h [ inl t ↦ in_left pm qm n t | inr t ↦ in_right pm qm n t ])
 
     -- the other form reads nothing here
-    never_right : (i : ℕ) → In pf (word_at ts i) → (k : ℕ) → qo i k → k ≡ i
+    never_right : (i : ℕ) → In pf (terminal_at ts i) → (k : ℕ) → qo i k → k ≡ i
     never_right i w k o = elim (same_or_before i k (sq.ahead i k o)) [ inl e ↦ sym e | inr lt ↦ absurd (apart_sound pf qf a _ w (sq.begins i k o lt)) ]
 
-    never_left : (i : ℕ) → (In pf (word_at ts i) → ⊥) → (k : ℕ) → po i k → k ≡ i
+    never_left : (i : ℕ) → (In pf (terminal_at ts i) → ⊥) → (k : ℕ) → po i k → k ≡ i
     never_left i w k o = elim (same_or_before i k (sp.ahead i k o)) [ inl e ↦ sym e | inr lt ↦ absurd (w (sp.begins i k o lt)) ]
 
     not_still : {X : Type 0} (r : Reading A) (o : Opening) (f m : List ℕ) → Sane ts r o (In f) ⊥ (In m) → (i j : ℕ) (v : A) → r i v j → j ≡ i → X
     not_still r o f m s i j v h e = elim (s.some i v j h) [ inl z ↦ absurd z | inr lt ↦ absurd (omega (arith, e, lt)) ]
 
-    left : (i : ℕ) → In pf (word_at ts i) → (out : Outcome A) → Gives ts p po (In pm) i out → Gives ts ReadsEither OpensEither (In (pm ++ qm)) i out
+    left : (i : ℕ) → In pf (terminal_at ts i) → (out : Outcome A) → Gives ts p po (In pm) i out → Gives ts ReadsEither OpensEither (In (pm ++ qm)) i out
     left i w (Ok z) g = record {
       reads = inl g.reads;
       longest = λ k o. elim o [ inl h ↦ g.longest k h | inr h ↦ let e : i ≤ z.1 = sp.ahead i z.1 (sp.whole i z.0 z.1 g.reads) in let e2 : k ≡ i = never_right i w k h in omega (arith, e, e2) ];
@@ -134,7 +134,7 @@ module _ (ts : ℕ → Terminal) where
     }
     left i w (Err (Syntax j)) g = held_left i w j g
       where
-        held_left : (i : ℕ) → In pf (word_at ts i) → (j : ℕ) → Held ts p po (In pm) i j → Held ts ReadsEither OpensEither (In (pm ++ qm)) i j
+        held_left : (i : ℕ) → In pf (terminal_at ts i) → (j : ℕ) → Held ts p po (In pm) i j → Held ts ReadsEither OpensEither (In (pm ++ qm)) i j
         held_left i w j g = record {
           opens = inl g.opens;
           longest = λ k o. elim o [ inl h ↦ g.longest k h | inr h ↦ let e : i ≤ j = sp.ahead i j g.opens in let e2 : k ≡ i = never_right i w k h in omega (arith, e, e2) ];
@@ -150,14 +150,14 @@ module _ (ts : ℕ → Terminal) where
         }
     left i w (Err OutOfMemory) g = g
 
-    held_right : (i : ℕ) → (In pf (word_at ts i) → ⊥) → (j : ℕ) → Held ts q qo (In qm) i j → Held ts ReadsEither OpensEither (In (pm ++ qm)) i j
+    held_right : (i : ℕ) → (In pf (terminal_at ts i) → ⊥) → (j : ℕ) → Held ts q qo (In qm) i j → Held ts ReadsEither OpensEither (In (pm ++ qm)) i j
     held_right i w j g = record {
       opens = inr g.opens;
       longest = λ k o. elim o [ inr h ↦ g.longest k h | inl h ↦ let e : i ≤ j = sq.ahead i j g.opens in let e2 : k ≡ i = never_left i w k h in omega (arith, e, e2) ];
       held = λ v h. elim h [ inr t ↦ in_right pm qm _ (g.held v t) | inl t ↦ not_still p po pf pm sp i j v t (never_left i w j (sp.whole i v j t)) ];
     }
 
-    right : (i : ℕ) → (In pf (word_at ts i) → ⊥) → (out : Outcome A) → Gives ts q qo (In qm) i out → Gives ts ReadsEither OpensEither (In (pm ++ qm)) i out
+    right : (i : ℕ) → (In pf (terminal_at ts i) → ⊥) → (out : Outcome A) → Gives ts q qo (In qm) i out → Gives ts ReadsEither OpensEither (In (pm ++ qm)) i out
     right i w (Ok z) g = record {
       reads = inr g.reads;
       longest = λ k o. elim o [ inr h ↦ g.longest k h | inl h ↦ let e : i ≤ z.1 = sq.ahead i z.1 (sq.whole i z.0 z.1 g.reads) in let e2 : k ≡ i = never_left i w k h in omega (arith, e, e2) ];
@@ -167,10 +167,10 @@ module _ (ts : ℕ → Terminal) where
     right i w (Err (Nest j)) g = held_right i w j g
     right i w (Err OutOfMemory) g = g
 
-    pub run_either : (i : ℕ) (f g : Outcome A) → Gives ts p po (In pm) i f → Gives ts q qo (In qm) i g → Gives ts ReadsEither OpensEither (In (pm ++ qm)) i (cond (member (word_at ts i) pf) f g)
-    run_either i f g gf gg = at_test (member (word_at ts i) pf) refl
+    pub run_either : (i : ℕ) (f g : Outcome A) → Gives ts p po (In pm) i f → Gives ts q qo (In qm) i g → Gives ts ReadsEither OpensEither (In (pm ++ qm)) i (cond (member (terminal_at ts i) pf) f g)
+    run_either i f g gf gg = at_test (member (terminal_at ts i) pf) refl
       where
-        at_test : (b : Bool) → member (word_at ts i) pf ≡ b → Gives ts ReadsEither OpensEither (In (pm ++ qm)) i (cond b f g)
+        at_test : (b : Bool) → member (terminal_at ts i) pf ≡ b → Gives ts ReadsEither OpensEither (In (pm ++ qm)) i (cond b f g)
         at_test true e = left i e f gf
         at_test false e = right i (λ t. cc (t, e)) g gg
 
@@ -181,9 +181,9 @@ module _ (ts : ℕ → Terminal) where
     abbrev ReadsMaybe : Reading (Option A)
     ReadsMaybe i v j = ((x : A) × p i x j × (v ≡ Some x)) ⊎ ((v ≡ None) × (j ≡ i))
 
-    maybe-goes_on : (i : ℕ) (v : Option A) (j k : ℕ) → ReadsMaybe i v j → po i k → j < k → In (pm ++ pf) (word_at ts j)
+    maybe-goes_on : (i : ℕ) (v : Option A) (j k : ℕ) → ReadsMaybe i v j → po i k → j < k → In (pm ++ pf) (terminal_at ts j)
     maybe-goes_on i v j k (inl h) o lt = in_left pm pf _ (sp.goes_on i h.0 j k h.1 o lt)
-    maybe-goes_on i v j k (inr h) o lt = in_right pm pf _ (subst (λ t. In pf (word_at ts t)) (sym h.1) (sp.begins i k o (omega (arith, h.1, lt))))
+    maybe-goes_on i v j k (inr h) o lt = in_right pm pf _ (subst (λ t. In pf (terminal_at ts t)) (sym h.1) (sp.begins i k o (omega (arith, h.1, lt))))
 
     pub sound_maybe : Sound ReadsMaybe po pf true (pm ++ pf)
     sound_maybe = record {
@@ -202,17 +202,17 @@ module _ (ts : ℕ → Terminal) where
       only = λ w h. elim h [ inl t ↦ t.2 ∙ ap Some (g.only t.0 t.1) | inr t ↦ let lt : i < j = p-moves i j x g.reads in absurd (omega (arith, t.1, lt)) ];
     }
 
-    maybe_held : (i j : ℕ) → In pf (word_at ts i) → Held ts p po (In pm) i j → Held ts ReadsMaybe po (In (pm ++ pf)) i j
+    maybe_held : (i j : ℕ) → In pf (terminal_at ts i) → Held ts p po (In pm) i j → Held ts ReadsMaybe po (In (pm ++ pf)) i j
     maybe_held i j w g = record {
       opens = g.opens;
       longest = g.longest;
-      held = λ v h. elim h [ inl t ↦ in_left pm pf _ (g.held t.0 t.1) | inr t ↦ in_right pm pf _ (subst (λ u. In pf (word_at ts u)) (sym t.1) w) ];
+      held = λ v h. elim h [ inl t ↦ in_left pm pf _ (g.held t.0 t.1) | inr t ↦ in_right pm pf _ (subst (λ u. In pf (terminal_at ts u)) (sym t.1) w) ];
     }
 
-    stays : (i : ℕ) → (In pf (word_at ts i) → ⊥) → (k : ℕ) → po i k → k ≤ i
+    stays : (i : ℕ) → (In pf (terminal_at ts i) → ⊥) → (k : ℕ) → po i k → k ≤ i
     stays i never k o = elim (same_or_before i k (sp.ahead i k o)) [ inl e ↦ omega (arith, e) | inr lt ↦ absurd (never (sp.begins i k o lt)) ]
 
-    maybe_none : (i : ℕ) → (In pf (word_at ts i) → ⊥) → Found ts ReadsMaybe po i None i
+    maybe_none : (i : ℕ) → (In pf (terminal_at ts i) → ⊥) → Found ts ReadsMaybe po i None i
     maybe_none i never = record {
       reads = inr (refl, refl);
       longest = stays i never;
@@ -220,28 +220,28 @@ module _ (ts : ℕ → Terminal) where
     }
 
     pub run_maybe : (i : ℕ) (out : Outcome A) → Gives ts p po (In pm) i out
-        → Gives ts ReadsMaybe po (In (pm ++ pf)) i (cond (member (word_at ts i) pf) (and_then out (λ x j. Ok (Some x, j))) (Ok (None, i)))
-    run_maybe i out g = at_test (member (word_at ts i) pf) refl
+        → Gives ts ReadsMaybe po (In (pm ++ pf)) i (cond (member (terminal_at ts i) pf) (and_then out (λ x j. Ok (Some x, j))) (Ok (None, i)))
+    run_maybe i out g = at_test (member (terminal_at ts i) pf) refl
       where
-        begun : In pf (word_at ts i) → (out : Outcome A) → Gives ts p po (In pm) i out → Gives ts ReadsMaybe po (In (pm ++ pf)) i (and_then out (λ x j. Ok (Some x, j)))
+        begun : In pf (terminal_at ts i) → (out : Outcome A) → Gives ts p po (In pm) i out → Gives ts ReadsMaybe po (In (pm ++ pf)) i (and_then out (λ x j. Ok (Some x, j)))
         begun w (Ok z) g = maybe_found i z.0 z.1 g
         begun w (Err (Syntax j)) g = maybe_held i j w g
         begun w (Err (Nest j)) g = maybe_held i j w g
         begun w (Err OutOfMemory) g = g
 
-        at_test : (b : Bool) → member (word_at ts i) pf ≡ b → Gives ts ReadsMaybe po (In (pm ++ pf)) i (cond b (and_then out (λ x j. Ok (Some x, j))) (Ok (None, i)))
+        at_test : (b : Bool) → member (terminal_at ts i) pf ≡ b → Gives ts ReadsMaybe po (In (pm ++ pf)) i (cond b (and_then out (λ x j. Ok (Some x, j))) (Ok (None, i)))
         at_test true e = begun e out g
         at_test false e = maybe_none i (λ t. cc (t, e))
 
     module _ (ws : List ℕ) (sub : subset pf ws ≡ true) where
       abbrev ReadsNearest : Reading (Option A)
-      ReadsNearest i v j = ((x : A) × p i x j × (v ≡ Some x)) ⊎ ((v ≡ None) × (j ≡ i) × (member (word_at ts i) ws ≡ false))
+      ReadsNearest i v j = ((x : A) × p i x j × (v ≡ Some x)) ⊎ ((v ≡ None) × (j ≡ i) × (member (terminal_at ts i) ws ≡ false))
 
-      nearest-goes_on : (i : ℕ) (v : Option A) (j k : ℕ) → ReadsNearest i v j → po i k → j < k → In pm (word_at ts j)
+      nearest-goes_on : (i : ℕ) (v : Option A) (j k : ℕ) → ReadsNearest i v j → po i k → j < k → In pm (terminal_at ts j)
       nearest-goes_on i v j k (inl h) o lt = sp.goes_on i h.0 j k h.1 o lt
       nearest-goes_on i v j k (inr h) o lt =
-          let w : member (word_at ts i) ws ≡ true = subset_sound pf ws sub _ (sp.begins i k o (omega (arith, h.1, lt))) in
-          let u : member (word_at ts i) ws ≡ false = h.2 in absurd (cc (w, u))
+          let w : member (terminal_at ts i) ws ≡ true = subset_sound pf ws sub _ (sp.begins i k o (omega (arith, h.1, lt))) in
+          let u : member (terminal_at ts i) ws ≡ false = h.2 in absurd (cc (w, u))
 
       pub sound_nearest : Sound ReadsNearest po pf true pm
       sound_nearest = record {
@@ -253,32 +253,32 @@ module _ (ts : ℕ → Terminal) where
         goes_on = nearest-goes_on;
       }
 
-      nearest_held : (i j : ℕ) → In ws (word_at ts i) → Held ts p po (In pm) i j → Held ts ReadsNearest po (In pm) i j
+      nearest_held : (i j : ℕ) → In ws (terminal_at ts i) → Held ts p po (In pm) i j → Held ts ReadsNearest po (In pm) i j
       nearest_held i j w g = record {
         opens = g.opens;
         longest = g.longest;
-        held = λ v h. elim h [ inl t ↦ g.held t.0 t.1 | inr t ↦ let u : member (word_at ts i) ws ≡ false = t.2 in absurd (cc (w, u)) ];
+        held = λ v h. elim h [ inl t ↦ g.held t.0 t.1 | inr t ↦ let u : member (terminal_at ts i) ws ≡ false = t.2 in absurd (cc (w, u)) ];
       }
 
       pub run_nearest : (i : ℕ) (out : Outcome A) → Gives ts p po (In pm) i out
-          → Gives ts ReadsNearest po (In pm) i (cond (member (word_at ts i) ws) (and_then out (λ x j. Ok (Some x, j))) (Ok (None, i)))
-      run_nearest i out g = at_test (member (word_at ts i) ws) refl
+          → Gives ts ReadsNearest po (In pm) i (cond (member (terminal_at ts i) ws) (and_then out (λ x j. Ok (Some x, j))) (Ok (None, i)))
+      run_nearest i out g = at_test (member (terminal_at ts i) ws) refl
         where
-          begun : In ws (word_at ts i) → (out : Outcome A) → Gives ts p po (In pm) i out → Gives ts ReadsNearest po (In pm) i (and_then out (λ x j. Ok (Some x, j)))
+          begun : In ws (terminal_at ts i) → (out : Outcome A) → Gives ts p po (In pm) i out → Gives ts ReadsNearest po (In pm) i (and_then out (λ x j. Ok (Some x, j)))
           begun w (Ok z) g = record {
             reads = inl (z.0, g.reads, refl);
             longest = g.longest;
-            only = λ v h. elim h [ inl t ↦ t.2 ∙ ap Some (g.only t.0 t.1) | inr t ↦ let u : member (word_at ts i) ws ≡ false = t.2 in absurd (cc (w, u)) ];
+            only = λ v h. elim h [ inl t ↦ t.2 ∙ ap Some (g.only t.0 t.1) | inr t ↦ let u : member (terminal_at ts i) ws ≡ false = t.2 in absurd (cc (w, u)) ];
           }
           begun w (Err (Syntax j)) g = nearest_held i j w g
           begun w (Err (Nest j)) g = nearest_held i j w g
           begun w (Err OutOfMemory) g = g
 
-          at_test : (b : Bool) → member (word_at ts i) ws ≡ b → Gives ts ReadsNearest po (In pm) i (cond b (and_then out (λ x j. Ok (Some x, j))) (Ok (None, i)))
+          at_test : (b : Bool) → member (terminal_at ts i) ws ≡ b → Gives ts ReadsNearest po (In pm) i (cond b (and_then out (λ x j. Ok (Some x, j))) (Ok (None, i)))
           at_test true e = begun e out g
           at_test false e = record {
             reads = inr (refl, refl, e);
-            longest = stays i (λ t. let u : member (word_at ts i) ws ≡ true = subset_sound pf ws sub _ t in cc (u, e));
+            longest = stays i (λ t. let u : member (terminal_at ts i) ws ≡ true = subset_sound pf ws sub _ t in cc (u, e));
             only = λ w h. elim h [ inl t ↦ let lt : i < i = p-moves i i t.0 t.1 in absurd (omega (arith, lt)) | inr t ↦ t.0 ];
           }
 
@@ -312,10 +312,10 @@ module _ (ts : ℕ → Terminal) where
         words n (inr (inl t)) = in_left pm _ n t
         words n (inr (inr t)) = in_right pm (joined qf qn pf) n t
 
-    module _ (turns : ℕ) (last : (i : ℕ) → turns ≤ i → word_at ts i ≡ 0) (end : not (member 0 (joined qf qn pf)) ≡ true)
+    module _ (turns : ℕ) (last : (i : ℕ) → turns ≤ i → terminal_at ts i ≡ 0) (end : not (member 0 (joined qf qn pf)) ≡ true)
         (run_p : ℕ → Outcome A) (gives_p : (i : ℕ) → Gives ts p po (In pm) i (run_p i)) (run_q : ℕ → Outcome B) (gives_q : (i : ℕ) → Gives ts q qo (In qm) i (run_q i)) where
       abbrev begins : ℕ → Bool
-      begins i = member (word_at ts i) (joined qf qn pf)
+      begins i = member (terminal_at ts i) (joined qf qn pf)
 
       abbrev item : ℕ → Outcome (B × A)
       item i = and_then (run_q i) (λ y m. and_then (run_p m) (λ x j. Ok (pair_of y x, j)))
@@ -333,7 +333,7 @@ module _ (ts : ℕ → Terminal) where
           words n (inr (inl t)) = in_left pm _ n t
           words n (inr (inr t)) = in_right pm (joined qf qn pf) n t
 
-          ended : (i : ℕ) → turns ≤ i → In (joined qf qn pf) (word_at ts i) → ⊥
+          ended : (i : ℕ) → turns ≤ i → In (joined qf qn pf) (terminal_at ts i) → ⊥
           ended i le t = not_true _ end (subst (λ n. In (joined qf qn pf) n) (last i le) t)
 
   -- ---- each form of a tested grammar
@@ -384,7 +384,7 @@ module _ (ts : ℕ → Terminal) where
     abbrev pub solid_form : {s : Sort} (f : Form s) → good f ≡ true → not (nullable f) ≡ true → (e : Option ℕ) → Sane ts (R f e) (O f e) (In (first f)) ⊥ (In (follow f))
     solid_form f h n e = solid (R f e) (O f e) (first f) (follow f) (nullable f) n (sound f h e)
 
-    module _ (turns : ℕ) (last : (i : ℕ) → turns ≤ i → word_at ts i ≡ 0)
+    module _ (turns : ℕ) (last : (i : ℕ) → turns ≤ i → terminal_at ts i ≡ 0)
         (run_named : (n : Name) → Option ℕ → ℕ → Outcome (Value (sort n))) (named_gives : (n : Name) (e : Option ℕ) (i : ℕ) → Gives ts (named_reads n e) (named_opens n e) (In (follow_of n)) i (run_named n e i)) where
       abbrev X : {s : Sort} → Form s → Option ℕ → ℕ → Outcome (Value s)
       X f e i = run ts cap turns run_named f e i
@@ -393,9 +393,9 @@ module _ (ts : ℕ → Terminal) where
       Good f = (e : Option ℕ) (i : ℕ) → Gives ts (R f e) (O f e) (In (follow f)) i (X f e i)
 
       gives_one : (ws : List ℕ) (i : ℕ) → Gives ts (ReadsOne ts ws) (OpensOne ts ws) (In []) i (X (one ws) None i)
-      gives_one ws i = at_test (member (word_at ts i) ws) refl
+      gives_one ws i = at_test (member (terminal_at ts i) ws) refl
         where
-          at_test : (b : Bool) → member (word_at ts i) ws ≡ b → Gives ts (ReadsOne ts ws) (OpensOne ts ws) (In []) i (cond b (Ok (ts i, i + 1)) (Err (Syntax i)))
+          at_test : (b : Bool) → member (terminal_at ts i) ws ≡ b → Gives ts (ReadsOne ts ws) (OpensOne ts ws) (In []) i (cond b (Ok (ts i, i + 1)) (Err (Syntax i)))
           at_test true e = record {
             reads = (e, refl, refl);
             longest = λ k o. elim o [ inl t ↦ omega (arith, t) | inr t ↦ omega (arith, t.0) ];
@@ -403,14 +403,14 @@ module _ (ts : ℕ → Terminal) where
           }
           at_test false e = record {
             opens = inl refl;
-            longest = λ k o. elim o [ inl t ↦ omega (arith, t) | inr t ↦ let u : member (word_at ts i) ws ≡ true = t.1 in absurd (cc (u, e)) ];
-            held = λ w h. let u : member (word_at ts i) ws ≡ true = h.0 in absurd (cc (u, e));
+            longest = λ k o. elim o [ inl t ↦ omega (arith, t) | inr t ↦ let u : member (terminal_at ts i) ws ≡ true = t.1 in absurd (cc (u, e)) ];
+            held = λ w h. let u : member (terminal_at ts i) ws ≡ true = h.0 in absurd (cc (u, e));
           }
 
       gives_operator : (ws : List ℕ) (e : Option ℕ) (i : ℕ) → Gives ts (ReadsOperator ts cap ws e) (OpensOperator ts cap ws e) (In []) i (X (operator ws) e i)
-      gives_operator ws e i = at_test (member (word_at ts i) ws) (within cap e ((ts i).operators)) refl refl
+      gives_operator ws e i = at_test (member (terminal_at ts i) ws) (within cap e ((ts i).operators)) refl refl
         where
-          at_test : (b c : Bool) → member (word_at ts i) ws ≡ b → within cap e ((ts i).operators) ≡ c
+          at_test : (b c : Bool) → member (terminal_at ts i) ws ≡ b → within cap e ((ts i).operators) ≡ c
               → Gives ts (ReadsOperator ts cap ws e) (OpensOperator ts cap ws e) (In []) i (cond b (cond c (Ok (ts i, i + 1)) (Err (Nest i))) (Err (Syntax i)))
           at_test true true e1 e2 = record {
             reads = (e1, e2, refl, refl);
@@ -424,8 +424,8 @@ module _ (ts : ℕ → Terminal) where
           }
           at_test false c e1 e2 = record {
             opens = inl refl;
-            longest = λ k o. elim o [ inl t ↦ omega (arith, t) | inr t ↦ let u : member (word_at ts i) ws ≡ true = t.1 in absurd (cc (u, e1)) ];
-            held = λ w h. let u : member (word_at ts i) ws ≡ true = h.0 in absurd (cc (u, e1));
+            longest = λ k o. elim o [ inl t ↦ omega (arith, t) | inr t ↦ let u : member (terminal_at ts i) ws ≡ true = t.1 in absurd (cc (u, e1)) ];
+            held = λ w h. let u : member (terminal_at ts i) ws ≡ true = h.0 in absurd (cc (u, e1));
           }
 
       pub gives : {s : Sort} (f : Form s) → good f ≡ true → Good f

@@ -1,9 +1,9 @@
 -- What reading a form of the tested grammar says of all limits.
 use Rattle.std.proofs.Common.{◌≡◌, ℕ, zero, suc, ◌+◌, ◌≤◌, inl, inr, max, Bool, true, false, cond, Option, Ok, Err, refl, sym, ◌∙◌, ap, subst, arith}
-use Rattle.qt_words.specs.Terminals.{Terminal}
+use Rattle.qt_terminals.specs.Terminals.{PlacedTerminal}
 use Rattle.qt_grammar.specs.declared.refusal.Refusal.TheVariants.{Syntax, Nest}
 use Rattle.qt_grammar.specs.Sorts.{Sort, Value, Name, sort}
-use Rattle.qt_grammar.specs.Form.{Form, member, word_at}
+use Rattle.qt_grammar.specs.Form.{Form, member, terminal_at}
 use Rattle.qt_grammar.specs.Outcome.{Outcome}
 use Rattle.qt_grammar.specs.Language.{rule}
 use Rattle.qt_grammar.specs.Lookahead.{first, nullable, first_of}
@@ -16,7 +16,7 @@ use Rattle.qt_grammar.proofs.Stuck.{Moved, NoTree}
 use Rattle.qt_grammar.proofs.Refused.{moves_form, none_form}
 use Rattle.qt_grammar.proofs.Depth.{reads_up, opens_up, Calm, calm_form, refuses_form, starts, onward, outside}
 
-module _ (ts : ℕ → Terminal) where
+module _ (ts : ℕ → PlacedTerminal) where
   module _ (cap cap' : ℕ) (le : cap ≤ cap') where
     pub reads_to_up : (d d' : ℕ) → d ≤ d' → (n : Name) (e : Option ℕ) (i : ℕ) (v : Value (sort n)) (j : ℕ) → ReadsTo ts cap d n e i v j → ReadsTo ts cap' d' n e i v j
     reads_to_up zero d' l n e i v j h = absurd h
@@ -36,10 +36,10 @@ module _ (ts : ℕ → Terminal) where
     pub opens_more : (d d' : ℕ) → d ≤ d' → {s : Sort} (f : Form s) (e : Option ℕ) (i j : ℕ) → Opens ts cap d f e i j → Opens ts cap' d' f e i j
     opens_more d d' l f e i j h = opens_up ts cap cap' le (ReadsTo ts cap d) (ReadsTo ts cap' d') (reads_to_up d d' l) (OpensTo ts cap d) (OpensTo ts cap' d') (opens_to_up d d' l) f e i j h
 
-  module _ (turns : ℕ) (last : (i : ℕ) → turns ≤ i → word_at ts i ≡ 0) where
-    pub refuses_to : (cap d : ℕ) (n : Name) (e : Option ℕ) (i : ℕ) → member (word_at ts i) (first_of n) ≡ false → run_to ts cap turns d n e i ≡ Err (Syntax i)
+  module _ (turns : ℕ) (last : (i : ℕ) → turns ≤ i → terminal_at ts i ≡ 0) where
+    pub refuses_to : (cap d : ℕ) (n : Name) (e : Option ℕ) (i : ℕ) → member (terminal_at ts i) (first_of n) ≡ false → run_to ts cap turns d n e i ≡ Err (Syntax i)
     refuses_to cap zero n e i h = rw h refl
-    refuses_to cap (suc d) n e i h = elim (refuses_form ts cap turns (run_to ts cap turns d) (refuses_to cap d) (rule n) e i (tested n) (outside ts (first (rule n)) (first_of n) (word_at ts i) (first_rule n) h)) [
+    refuses_to cap (suc d) n e i h = elim (refuses_form ts cap turns (run_to ts cap turns d) (refuses_to cap d) (rule n) e i (tested n) (outside ts (first (rule n)) (first_of n) (terminal_at ts i) (first_rule n) h)) [
       | inl z ↦ absurd (not_true (nullable (rule n)) (solid_rule n) z.0)
       | inr z ↦ z.1
     ]
@@ -50,9 +50,9 @@ module _ (ts : ℕ → Terminal) where
 
     module _ (cap cap' : ℕ) (le : cap ≤ cap') where
       calm_to : (d d' : ℕ) → d ≤ d' → (n : Name) (e : Option ℕ) (i : ℕ) → Calm ts (run_to ts cap turns d n e i) (run_to ts cap' turns d' n e i)
-      calm_to zero d' l n e i = at_test (member (word_at ts i) (first_of n)) refl
+      calm_to zero d' l n e i = at_test (member (terminal_at ts i) (first_of n)) refl
         where
-          at_test : (v : Bool) → member (word_at ts i) (first_of n) ≡ v → Calm ts {A = Value (sort n)} (cond v (Err (Nest i)) (Err (Syntax i))) (run_to ts cap' turns d' n e i)
+          at_test : (v : Bool) → member (terminal_at ts i) (first_of n) ≡ v → Calm ts {A = Value (sort n)} (cond v (Err (Nest i)) (Err (Syntax i))) (run_to ts cap' turns d' n e i)
           at_test true h = inl (i, refl)
           at_test false h = inr (refuses_to cap' d' n e i h)
       calm_to (suc d) zero l n e i = absurd (omega (arith, l))
@@ -122,16 +122,16 @@ module _ (ts : ℕ → Terminal) where
         reads_more cap (larger cap j) (omega arith) d (suc d) (omega arith) f e i z.0 z.1 k.reads
 
     nests_to : (cap j d : ℕ) (n : Name) (e : Option ℕ) (i : ℕ) → run_to ts cap turns d n e i ≡ Err (Nest j) → OpensTo ts (larger cap j) (suc d) n e i (j + 1)
-    nests_to cap j zero n e i h = at_test (member (word_at ts i) (first_of n)) refl h
+    nests_to cap j zero n e i h = at_test (member (terminal_at ts i) (first_of n)) refl h
       where
         same : {A : Type 0} (i j : ℕ) → (let o : Outcome A = Err (Nest i) in o) ≡ Err (Nest j) → i ≡ j
         same {A} i j h = ap (λ (o : Outcome A). elim o as (λ _. ℕ) [ Ok z ↦ 0 | Err (Nest k) ↦ k | Err _ ↦ 0 ]) h
 
-        begins : i ≡ j → In (first_of n) (word_at ts i) → OpensTo ts (larger cap j) 1 n e i (j + 1)
+        begins : i ≡ j → In (first_of n) (terminal_at ts i) → OpensTo ts (larger cap j) 1 n e i (j + 1)
         begins q w = subst (λ t. OpensTo ts (larger cap t) 1 n e i (t + 1)) q
-            (starts ts (larger cap i) (ReadsTo ts (larger cap i) 0) (OpensTo ts (larger cap i) 0) (rule n) e i (omega arith) (direct_rule n) (subset_sound (first_of n) (first (rule n)) (rule_first n) (word_at ts i) w))
+            (starts ts (larger cap i) (ReadsTo ts (larger cap i) 0) (OpensTo ts (larger cap i) 0) (rule n) e i (omega arith) (direct_rule n) (subset_sound (first_of n) (first (rule n)) (rule_first n) (terminal_at ts i) w))
 
-        at_test : (v : Bool) → member (word_at ts i) (first_of n) ≡ v → cond {A = Outcome (Value (sort n))} v (Err (Nest i)) (Err (Syntax i)) ≡ Err (Nest j) → OpensTo ts (larger cap j) 1 n e i (j + 1)
+        at_test : (v : Bool) → member (terminal_at ts i) (first_of n) ≡ v → cond {A = Outcome (Value (sort n))} v (Err (Nest i)) (Err (Syntax i)) ≡ Err (Nest j) → OpensTo ts (larger cap j) 1 n e i (j + 1)
         at_test true w h = begins (same {A = Value (sort n)} i j h) w
         at_test false w h = absurd (cc h)
     nests_to cap j (suc d) n e i h =
@@ -144,15 +144,15 @@ module _ (ts : ℕ → Terminal) where
 
     -- ---- no tree before a token that is refused
 
-    moves_to : (cap d : ℕ) (n : Name) (e : Option ℕ) (i : ℕ) → In (first_of n) (word_at ts i) → Moved i (run_to ts cap turns d n e i)
-    moves_to cap zero n e i w = at_test (member (word_at ts i) (first_of n)) w
+    moves_to : (cap d : ℕ) (n : Name) (e : Option ℕ) (i : ℕ) → In (first_of n) (terminal_at ts i) → Moved i (run_to ts cap turns d n e i)
+    moves_to cap zero n e i w = at_test (member (terminal_at ts i) (first_of n)) w
       where
         at_test : (b : Bool) → b ≡ true → Moved {A = Value (sort n)} i (cond b (Err (Nest i)) (Err (Syntax i)))
         at_test true h = tt
         at_test false h = absurd (cc h)
     moves_to cap (suc d) n e i w =
         moves_form ts cap (ReadsTo ts cap d) (OpensTo ts cap d) (sane_to ts cap d) turns last (run_to ts cap turns d) (gives_to ts cap turns last d) (refuses_to cap d) (moves_to cap d)
-        (rule n) (tested n) e i (subset_sound (first_of n) (first (rule n)) (rule_first n) (word_at ts i) w)
+        (rule n) (tested n) e i (subset_sound (first_of n) (first (rule n)) (rule_first n) (terminal_at ts i) w)
 
     none_to : (cap d : ℕ) (n : Name) (e : Option ℕ) (i : ℕ) → NoTree (ReadsTo ts cap d n e) i (run_to ts cap turns d n e i)
     none_to cap zero n e i m w h r = r

@@ -1,7 +1,7 @@
 -- The test that a grammar is read from the left by one token: no two words compete.
 use Rattle.std.proofs.Common.{◌≡◌, ℕ, ◌⊎◌, inl, inr, Bool, true, false, ◌&&◌, ◌||◌, not, eqb, List, [], ◌∷◌, ◌++◌, refl, sym, subst, arith}
-use Rattle.qt_words.specs.Words.{code}
-use Rattle.qt_words.specs.declared.word.Word.TheVariants as w
+use Rattle.qt_terminals.specs.Alphabet.{code}
+use Rattle.qt_terminals.specs.declared.terminal.Terminal.TheVariants as w
 use Rattle.qt_grammar.specs.Sorts.{Sort, Name, any, unary, block, single, an_index, a_range, a_set, an_entry, in_sizeof, in_array, parameters, gate_block}
 use Rattle.qt_grammar.specs.Form.{Form, one, operator, counted, here, empty, as_tree, then_, either, maybe, nearest, chain, named, member}
 use Rattle.qt_grammar.specs.Lookahead.{first, nullable, joined, first_of, begins_expr, begins_statement}

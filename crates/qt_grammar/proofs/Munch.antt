@@ -1,13 +1,13 @@
 -- Reading from the left finds the longest list of tokens that opens a form.
 use Rattle.std.proofs.Common.{◌≡◌, ℕ, zero, suc, ◌+◌, ◌≤◌, ◌<◌, ◌⊎◌, inl, inr, Bool, true, false, cond, Ok, Err, refl, sym, ◌∙◌, ap, subst, arith}
-use Rattle.qt_words.specs.Terminals.{Terminal}
+use Rattle.qt_terminals.specs.Terminals.{PlacedTerminal}
 use Rattle.qt_grammar.specs.declared.refusal.Refusal.{Refusal}
 use Rattle.qt_grammar.specs.declared.refusal.Refusal.TheVariants.{Syntax, Nest, OutOfMemory}
-use Rattle.qt_grammar.specs.Form.{Reading, Opening, word_at, ReadsThen, OpensThen, ReadsMore}
+use Rattle.qt_grammar.specs.Form.{Reading, Opening, terminal_at, ReadsThen, OpensThen, ReadsMore}
 use Rattle.qt_grammar.specs.Outcome.{Outcome, and_then, more_of}
 use Rattle.qt_grammar.proofs.Sane.{same_or_before, Words, Apart, Sane, reads-ahead, more_or_begins, item-moves, more-ahead, ReadsItems, OpensItems, after_first}
 
-module _ (ts : ℕ → Terminal) where
+module _ (ts : ℕ → PlacedTerminal) where
   -- the longest list of tokens that opens the form ends at j, and it spells this tree and no other
   pub record Found {A : Type 0} (r : Reading A) (o : Opening) (i : ℕ) (v : A) (j : ℕ) : Type 0 where
     pub reads : r i v j
@@ -18,7 +18,7 @@ module _ (ts : ℕ → Terminal) where
   pub record Held {A : Type 0} (r : Reading A) (o : Opening) (more : Words) (i j : ℕ) : Type 0 where
     pub opens : o i j
     pub longest : (k : ℕ) → o i k → k ≤ j
-    pub held : (w : A) → r i w j → more (word_at ts j)
+    pub held : (w : A) → r i w j → more (terminal_at ts j)
 
   abbrev pub Refused : {A : Type 0} → Reading A → Opening → Words → ℕ → Refusal → Type 0
   Refused r o more i (Syntax j) = Held r o more i j
@@ -40,7 +40,7 @@ module _ (ts : ℕ → Terminal) where
     more-then n = qm n ⊎ (qn × pm n)
 
     -- nothing of the second part is read from a place where the first part could go on
-    goes_nowhere : (m l : ℕ) → pm (word_at ts m) → qo m l → l ≡ m
+    goes_nowhere : (m l : ℕ) → pm (terminal_at ts m) → qo m l → l ≡ m
     goes_nowhere m l w h = elim (same_or_before m l (sq.ahead m l h)) [ inl e ↦ sym e | inr lt ↦ absurd (a _ w (sq.begins m l h lt)) ]
 
     -- where the first part may end
@@ -61,10 +61,10 @@ module _ (ts : ℕ → Terminal) where
             | inr e ↦ omega (arith, e.0, e.1)
           ]
         ] in
-        let held : (w : C) → ReadsThen k p q i w m → more-then (word_at ts m) =
+        let held : (w : C) → ReadsThen k p q i w m → more-then (terminal_at ts m) =
         λ w h. elim (junction i h.0 h.2 m m h.3 (s.longest h.2 (sp.whole i h.0 h.2 h.3)) s.opens (sq.whole h.2 h.1 m h.4)) [
           | inl e ↦
-              let z : pm (word_at ts m) = s.held h.0 (subst (λ t. p i h.0 t) e h.3) in
+              let z : pm (terminal_at ts m) = s.held h.0 (subst (λ t. p i h.0 t) e h.3) in
               elim (sq.some m h.1 m (subst (λ t. q t h.1 m) e h.4)) [ inl n ↦ inr (n, z) | inr lt ↦ absurd (omega (arith, lt)) ]
           | inr e ↦ absurd (omega (arith, e.0, e.1))
         ] in
@@ -131,23 +131,23 @@ module _ (ts : ℕ → Terminal) where
     abbrev pub more-tail : Words
     more-tail n = qm n ⊎ qf n
 
-    pub goes_nowhere_else : (n : ℕ) (c : C) (m : ℕ) (v : C) (j l : ℕ) → qm (word_at ts m) → ReadsMore step q n c m v j → qo j l → (j ≡ m) × (l ≡ m)
+    pub goes_nowhere_else : (n : ℕ) (c : C) (m : ℕ) (v : C) (j l : ℕ) → qm (terminal_at ts m) → ReadsMore step q n c m v j → qo j l → (j ≡ m) × (l ≡ m)
     goes_nowhere_else n c m v j l w t h = elim (more_or_begins ts step q qo qf qm sq a n c m v j t) [
       | inr z ↦ absurd (a _ w z.0)
       | inl e ↦ elim (same_or_before j l (sq.ahead j l h)) [
         | inl same ↦ (e.0, sym same ∙ e.0)
-        | inr lt ↦ absurd (a _ w (subst (λ t. qf (word_at ts t)) e.0 (sq.begins j l h lt)))
+        | inr lt ↦ absurd (a _ w (subst (λ t. qf (terminal_at ts t)) e.0 (sq.begins j l h lt)))
       ]
     ]
 
-    stops : (c : C) (i : ℕ) → (qf (word_at ts i) → ⊥) → Found (ReadsTail c) (OpensTail c) i c i
+    stops : (c : C) (i : ℕ) → (qf (terminal_at ts i) → ⊥) → Found (ReadsTail c) (OpensTail c) i c i
     stops c i never = record {
       reads = (zero, (refl, refl));
       longest = λ l h. elim (more_or_begins ts step q qo qf qm sq a h.2.0 c i h.0 h.1 h.2.1) [
         | inr z ↦ absurd (never z.0)
         | inl e ↦ elim (same_or_before h.1 l (sq.ahead h.1 l h.3)) [
           | inl same ↦ omega (arith, same, e.0)
-          | inr lt ↦ absurd (never (subst (λ t. qf (word_at ts t)) e.0 (sq.begins h.1 l h.3 lt)))
+          | inr lt ↦ absurd (never (subst (λ t. qf (terminal_at ts t)) e.0 (sq.begins h.1 l h.3 lt)))
         ]
       ];
       only = λ w h. elim (more_or_begins ts step q qo qf qm sq a h.0 c i w i h.1) [ inl e ↦ e.1 | inr z ↦ absurd (never z.0) ];
@@ -195,22 +195,22 @@ module _ (ts : ℕ → Terminal) where
         record {
           opens = (s.opens.0, s.opens.1, (suc s.opens.2.0, (y, m, f.reads, s.opens.2.1)), s.opens.3);
           longest = λ l h. longest-more c i y m j f le s.longest h.2.0 h.0 h.1 l h.2.1 h.3;
-          held = λ w h. only-more c i y m j (λ w. more-tail (word_at ts j)) f le s.held h.0 w h.1;
+          held = λ w h. only-more c i y m j (λ w. more-tail (terminal_at ts j)) f le s.held h.0 w h.1;
         }
 
-    held_item : (c : C) (i j : ℕ) → qf (word_at ts i) → Held q qo qm i j → Held (ReadsTail c) (OpensTail c) more-tail i j
+    held_item : (c : C) (i j : ℕ) → qf (terminal_at ts i) → Held q qo qm i j → Held (ReadsTail c) (OpensTail c) more-tail i j
     held_item c i j b s =
         let tail : (n : ℕ) (v : C) (m l : ℕ) → ReadsMore step q n c i v m → qo m l → (l ≤ j) =
         λ n v m l. elim n as (λ n. ReadsMore step q n c i v m → qo m l → (l ≤ j)) [
           | zero ↦ λ t h. s.longest l (subst (λ t. qo t l) t.1 h)
           | suc n ↦ λ t h. elim (same_or_before t.1 j (s.longest t.1 (sq.whole i t.0 t.1 t.2))) [
-            | inl e ↦ let z : (m ≡ t.1) × (l ≡ t.1) = goes_nowhere_else n (step c t.0) t.1 v m l (subst (λ u. qm (word_at ts u)) (sym e) (s.held t.0 (subst (λ u. q i t.0 u) e t.2))) t.3 h in omega (arith, z.1, e)
+            | inl e ↦ let z : (m ≡ t.1) × (l ≡ t.1) = goes_nowhere_else n (step c t.0) t.1 v m l (subst (λ u. qm (terminal_at ts u)) (sym e) (s.held t.0 (subst (λ u. q i t.0 u) e t.2))) t.3 h in omega (arith, z.1, e)
             | inr lt ↦ let z : (m ≡ t.1) × (l ≡ t.1) = goes_nowhere_else n (step c t.0) t.1 v m l (sq.goes_on i t.0 t.1 j t.2 s.opens lt) t.3 h in omega (arith, z.1, lt)
           ]
         ] in
-        let held : (n : ℕ) (w : C) → ReadsMore step q n c i w j → more-tail (word_at ts j) =
-        λ n w. elim n as (λ n. ReadsMore step q n c i w j → more-tail (word_at ts j)) [
-          | zero ↦ λ t. inr (subst (λ u. qf (word_at ts u)) (sym t.1) b)
+        let held : (n : ℕ) (w : C) → ReadsMore step q n c i w j → more-tail (terminal_at ts j) =
+        λ n w. elim n as (λ n. ReadsMore step q n c i w j → more-tail (terminal_at ts j)) [
+          | zero ↦ λ t. inr (subst (λ u. qf (terminal_at ts u)) (sym t.1) b)
           | suc n ↦ λ t. elim (same_or_before t.1 j (s.longest t.1 (sq.whole i t.0 t.1 t.2))) [
             | inl e ↦ inl (s.held t.0 (subst (λ u. q i t.0 u) e t.2))
             | inr lt ↦ let z : (j ≡ t.1) × (j ≡ t.1) = goes_nowhere_else n (step c t.0) t.1 w j j (sq.goes_on i t.0 t.1 j t.2 s.opens lt) t.3 (sq.nil j) in absurd (omega (arith, z.0, lt))
@@ -222,9 +222,9 @@ module _ (ts : ℕ → Terminal) where
           held = λ w h. held h.0 w h.1;
         }
 
-    module _ (begins : ℕ → Bool) (item : ℕ → Outcome B) (turns : ℕ) (yes : (i : ℕ) → begins i ≡ true → qf (word_at ts i)) (never : (i : ℕ) → begins i ≡ false → qf (word_at ts i) → ⊥)
-        (ends : (i : ℕ) → turns ≤ i → qf (word_at ts i) → ⊥) (gives : (i : ℕ) → Gives q qo qm i (item i)) where
-      gives_item : (n : ℕ) (c : C) (i : ℕ) → qf (word_at ts i) → (out : Outcome B) → Gives q qo qm i out
+    module _ (begins : ℕ → Bool) (item : ℕ → Outcome B) (turns : ℕ) (yes : (i : ℕ) → begins i ≡ true → qf (terminal_at ts i)) (never : (i : ℕ) → begins i ≡ false → qf (terminal_at ts i) → ⊥)
+        (ends : (i : ℕ) → turns ≤ i → qf (terminal_at ts i) → ⊥) (gives : (i : ℕ) → Gives q qo qm i (item i)) where
+      gives_item : (n : ℕ) (c : C) (i : ℕ) → qf (terminal_at ts i) → (out : Outcome B) → Gives q qo qm i out
           → ((y : B) (m : ℕ) → i < m → Gives (ReadsTail (step c y)) (OpensTail (step c y)) more-tail m (more_of begins step item n (step c y) m))
           → Gives (ReadsTail c) (OpensTail c) more-tail i (and_then out (λ y m. more_of begins step item n (step c y) m))
       gives_item n c i b (Ok s) f rest = gives_rest (more_of begins step item n (step c s.0) s.1) (rest s.0 s.1 (item-moves ts step q qo qf qm sq a i s.0 s.1 f.reads))
@@ -259,12 +259,12 @@ module _ (ts : ℕ → Terminal) where
     abbrev pub more-items : Words
     more-items n = pm n ⊎ (qm n ⊎ qf n)
 
-    ends_first : (n : ℕ) (c : C) (m : ℕ) (v : C) (j l : ℕ) → pm (word_at ts m) → ReadsMore step q n c m v j → qo j l → (j ≡ m) × (l ≡ m)
+    ends_first : (n : ℕ) (c : C) (m : ℕ) (v : C) (j l : ℕ) → pm (terminal_at ts m) → ReadsMore step q n c m v j → qo j l → (j ≡ m) × (l ≡ m)
     ends_first n c m v j l w t h =
         let e : j ≡ m = after_first ts first step p po pf pm q qo qf qm sp sq a b n c m v j w t in
         elim (same_or_before j l (sq.ahead j l h)) [
           | inl same ↦ (e, sym same ∙ e)
-          | inr lt ↦ absurd (b _ w (subst (λ t. qf (word_at ts t)) e (sq.begins j l h lt)))
+          | inr lt ↦ absurd (b _ w (subst (λ t. qf (terminal_at ts t)) e (sq.begins j l h lt)))
         ]
 
     abbrev T : C → Reading C
@@ -296,9 +296,9 @@ module _ (ts : ℕ → Terminal) where
 
     held_first : (i j : ℕ) → Held p po pm i j → Held R O more-items i j
     held_first i j s =
-        let ends : (x' : A) (m0 : ℕ) → p i x' m0 → (m0 ≤ j) × pm (word_at ts m0) =
+        let ends : (x' : A) (m0 : ℕ) → p i x' m0 → (m0 ≤ j) × pm (terminal_at ts m0) =
         λ x' m0 r. let le : m0 ≤ j = s.longest m0 (sp.whole i x' m0 r) in elim (same_or_before m0 j le) [
-          | inl e ↦ (le, subst (λ u. pm (word_at ts u)) (sym e) (s.held x' (subst (λ u. p i x' u) e r)))
+          | inl e ↦ (le, subst (λ u. pm (terminal_at ts u)) (sym e) (s.held x' (subst (λ u. p i x' u) e r)))
           | inr lt ↦ (le, sp.goes_on i x' m0 j r s.opens lt)
         ] in
         record {
@@ -306,12 +306,12 @@ module _ (ts : ℕ → Terminal) where
           longest = λ l o. elim o [
             | inl h ↦ s.longest l h
             | inr h ↦
-                let w : (h.2.1 ≤ j) × pm (word_at ts h.2.1) = ends h.2.0 h.2.1 h.2.3 in
+                let w : (h.2.1 ≤ j) × pm (terminal_at ts h.2.1) = ends h.2.0 h.2.1 h.2.3 in
                 let z : (h.1 ≡ h.2.1) × (l ≡ h.2.1) = ends_first h.2.2 (first h.2.0) h.2.1 h.0 h.1 l w.1 h.2.4 h.3 in omega (arith, z.1, w.0)
           ];
           held = λ v h.
-              let w : (h.1 ≤ j) × pm (word_at ts h.1) = ends h.0 h.1 h.3 in
-              let z : (j ≡ h.1) × (j ≡ h.1) = ends_first h.2 (first h.0) h.1 v j j w.1 h.4 (sq.nil j) in inl (subst (λ u. pm (word_at ts u)) (sym z.0) w.1);
+              let w : (h.1 ≤ j) × pm (terminal_at ts h.1) = ends h.0 h.1 h.3 in
+              let z : (j ≡ h.1) × (j ≡ h.1) = ends_first h.2 (first h.0) h.1 v j j w.1 h.4 (sq.nil j) in inl (subst (λ u. pm (terminal_at ts u)) (sym z.0) w.1);
         }
 
     held_tail : (i : ℕ) (x : A) (m : ℕ) → Found p po i x m → (j : ℕ) → Held (T (first x)) (U (first x)) (λ n. qm n ⊎ qf n) m j → Held R O more-items i j
@@ -322,7 +322,7 @@ module _ (ts : ℕ → Terminal) where
         record {
           opens = inr (s.opens.0, s.opens.1, (x, m, s.opens.2.0, f.reads, s.opens.2.1), s.opens.3);
           longest = longest-items i x m j f le s.longest;
-          held = λ w h. inr (only-items i x m j (λ w. qm (word_at ts j) ⊎ qf (word_at ts j)) f le s.held w h);
+          held = λ w h. inr (only-items i x m j (λ w. qm (terminal_at ts j) ⊎ qf (terminal_at ts j)) f le s.held w h);
         }
 
     gives_tail : (i : ℕ) (x : A) (m : ℕ) → Found p po i x m → (out : Outcome C) → Gives (T (first x)) (U (first x)) (λ n. qm n ⊎ qf n) m out → Gives R O more-items i out

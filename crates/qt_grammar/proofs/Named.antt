@@ -1,9 +1,9 @@
 -- Each form of the tested grammar, at each number of levels.
 use Rattle.std.proofs.Common.{◌≡◌, ℕ, zero, suc, ◌≤◌, Bool, true, false, cond, Option, Err, refl, arith}
-use Rattle.qt_words.specs.Terminals.{Terminal}
+use Rattle.qt_terminals.specs.Terminals.{PlacedTerminal}
 use Rattle.qt_grammar.specs.declared.refusal.Refusal.TheVariants.{Syntax, Nest}
 use Rattle.qt_grammar.specs.Sorts.{Sort, Value, Name, sort}
-use Rattle.qt_grammar.specs.Form.{Form, member, word_at, Reading, Opening, ReadsBy, OpensBy}
+use Rattle.qt_grammar.specs.Form.{Form, member, terminal_at, Reading, Opening, ReadsBy, OpensBy}
 use Rattle.qt_grammar.specs.Language.{rule}
 use Rattle.qt_grammar.specs.Lookahead.{first, nullable, first_of}
 use Rattle.qt_grammar.specs.Reading.{run, run_to, ReadsTo, OpensTo}
@@ -14,14 +14,14 @@ use Rattle.qt_grammar.proofs.Forms.{Sound, sound, solid_form, gives}
 use Rattle.qt_grammar.proofs.Tables.{tested, solid_rule, first_rule, follow_rule}
 
 -- what a form reads and opens within limits: so many levels, so many operators
-module _ (ts : ℕ → Terminal) (cap d : ℕ) where
+module _ (ts : ℕ → PlacedTerminal) (cap d : ℕ) where
   abbrev pub Reads : {s : Sort} → Form s → Option ℕ → Reading (Value s)
   Reads f e = ReadsBy ts cap (ReadsTo ts cap d) f e
 
   abbrev pub Opens : {s : Sort} → Form s → Option ℕ → Opening
   Opens f e = OpensBy ts cap (ReadsTo ts cap d) (OpensTo ts cap d) f e
 
-module _ (ts : ℕ → Terminal) (cap : ℕ) where
+module _ (ts : ℕ → PlacedTerminal) (cap : ℕ) where
   sane_zero : (n : Name) (e : Option ℕ) → Sane ts (ReadsTo ts cap 0 n e) (OpensTo ts cap 0 n e) (In (first_of n)) ⊥ (In (follow_of n))
   sane_zero n e = record {
     ahead = (λ i j e. omega (arith, e));
@@ -42,9 +42,9 @@ module _ (ts : ℕ → Terminal) (cap : ℕ) where
   pub sound_form : (d : ℕ) {s : Sort} (f : Form s) → good f ≡ true → (e : Option ℕ) → Sound ts (Reads ts cap d f e) (Opens ts cap d f e) (first f) (nullable f) (follow f)
   sound_form d f g e = sound ts cap (ReadsTo ts cap d) (OpensTo ts cap d) (sane_to d) f g e
 
-  module _ (turns : ℕ) (last : (i : ℕ) → turns ≤ i → word_at ts i ≡ 0) where
+  module _ (turns : ℕ) (last : (i : ℕ) → turns ≤ i → terminal_at ts i ≡ 0) where
     gives_zero : (n : Name) (e : Option ℕ) (i : ℕ) → Gives ts (ReadsTo ts cap 0 n e) (OpensTo ts cap 0 n e) (In (follow_of n)) i (run_to ts cap turns 0 n e i)
-    gives_zero n e i = at_test (member (word_at ts i) (first_of n))
+    gives_zero n e i = at_test (member (terminal_at ts i) (first_of n))
       where
         at_test : (b : Bool) → Gives ts (ReadsTo ts cap 0 n e) (OpensTo ts cap 0 n e) (In (follow_of n)) i (cond b (Err (Nest i)) (Err (Syntax i)))
         at_test true = record { opens = refl; longest = λ k e. omega (arith, e); held = λ w h. absurd h }

@@ -2,14 +2,14 @@
 use Rattle.std.proofs.Common.{◌≡◌, ◌≢◌, ℕ, suc, ◌+◌, ◌≤◌, ◌<◌, ◌⊎◌, inl, inr, max, true, Option, None, Result, Ok, Err, refl, ◌∙◌, ap, subst, arith}
 use Rattle.qt_grammar.specs.declared.refusal.Refusal.{Refusal}
 use Rattle.qt_grammar.specs.declared.refusal.Refusal.TheVariants.{Syntax, Nest, OutOfMemory}
-use Rattle.qt_words.specs.Terminals.{Terminal}
+use Rattle.qt_terminals.specs.Terminals.{PlacedTerminal}
 use Rattle.qt_grammar.specs.Sorts.{Sort, Value, program}
-use Rattle.qt_grammar.specs.Form.{Form, word_at}
+use Rattle.qt_grammar.specs.Form.{Form, terminal_at}
 use Rattle.qt_grammar.specs.Outcome.{Outcome, Says, Tells}
 use Rattle.qt_grammar.specs.Language.{whole}
 use Rattle.qt_grammar.specs.Lookahead.{first, nullable}
 use Rattle.qt_grammar.specs.Reading.{Limits}
-use Rattle.qt_grammar.specs.Promise.{Spells, Opens, Longest, Tree, Stopper, FirstTooDeep, Answers, OnlyProgram, NoProgram, Parses}
+use Rattle.qt_grammar.specs.Promise.{Spells, Opens, LongestPrefix, Tree, Stopper, FirstTooDeep, Answers, OnlyProgram, NoProgram, Parses}
 use Rattle.qt_grammar.proofs.Munch.{Found, Held}
 use Rattle.qt_grammar.proofs.LookaheadTests.{In, follow, good}
 use Rattle.qt_grammar.proofs.Forms.{Sound}
@@ -18,7 +18,7 @@ use Rattle.qt_grammar.proofs.Named.{Reads, sound_form}
 use Rattle.qt_grammar.proofs.Named as limited
 use Rattle.qt_grammar.proofs.Limits.{reads_more, opens_more, W, larger, given, ok_longest, ok_only, syntax_longest, syntax_none, opens_later}
 
-module _ (ts : ℕ → Terminal) (s : Sort) (f : Form s) (g : good f ≡ true) (e : Option ℕ) (i : ℕ) where
+module _ (ts : ℕ → PlacedTerminal) (s : Sort) (f : Form s) (g : good f ≡ true) (e : Option ℕ) (i : ℕ) where
   sound_at : (l : Limits) → Sound ts (Reads ts l.operators l.levels f e) (limited.Opens ts l.operators l.levels f e) (first f) (nullable f) (follow f)
   sound_at l = sound_form ts l.operators l.levels f g e
 
@@ -26,7 +26,7 @@ module _ (ts : ℕ → Terminal) (s : Sort) (f : Form s) (g : good f ≡ true) (
   pub opens_spelled : (l : Limits) (v : Value s) (j : ℕ) → Spells ts s f e i l v j → Opens ts s f e i l j
   opens_spelled l v j h = (sound_at l).whole i v j h
 
-  module _ (turns : ℕ) (last : (i : ℕ) → turns ≤ i → word_at ts i ≡ 0) (l : Limits) where
+  module _ (turns : ℕ) (last : (i : ℕ) → turns ≤ i → terminal_at ts i ≡ 0) (l : Limits) where
     abbrev At : Outcome (Value s) → Type 0
     At out = W ts turns last l.operators l.levels f e i ≡ out
 
@@ -83,14 +83,14 @@ module _ (ts : ℕ → Terminal) (s : Sort) (f : Form s) (g : good f ≡ true) (
     abbrev Right : Outcome (Value s) → Type 0
     Right out = Answers ts s f e i l out
 
-    same_end : (j k : ℕ) → Longest ts s f e i j → Longest ts s f e i k → j ≡ k
+    same_end : (j k : ℕ) → LongestPrefix ts s f e i j → LongestPrefix ts s f e i k → j ≡ k
     same_end j k a b = let x : k ≤ j = a.longest k b.opens in let y : j ≤ k = b.longest j a.opens in omega (arith, x, y)
 
     tree_or_stopper : (v : Value s) (j n : ℕ) → Tree ts s f e i l v j → Stopper ts s f e i n → ⊥
     tree_or_stopper v j n t u = u.none v (l, subst (λ k. Spells ts s f e i l v k) (same_end j n t.longest u.longest) t.spells)
 
     -- the longest list doesn't end within the limits where a token is too deep
-    too_short : (j n : ℕ) → Longest ts s f e i j → Opens ts s f e i l j → FirstTooDeep ts s f e i l n → ⊥
+    too_short : (j n : ℕ) → LongestPrefix ts s f e i j → Opens ts s f e i l j → FirstTooDeep ts s f e i l n → ⊥
     too_short j n a o d = let x : j ≤ n = d.limit j o in let y : n + 1 ≤ j = a.longest (n + 1) d.larger in omega (arith, x, y)
 
     pub one_answer : (a b : Outcome (Value s)) → a ≢ Err OutOfMemory → b ≢ Err OutOfMemory → Right a → Right b → a ≡ b
@@ -119,7 +119,7 @@ module _ (ts : ℕ → Terminal) (s : Sort) (f : Form s) (g : good f ≡ true) (
 abbrev pub joint : Limits → Limits → Limits
 joint l m = record { levels = max l.levels m.levels; operators = max l.operators m.operators }
 
-module _ (ts : ℕ → Terminal) where
+module _ (ts : ℕ → PlacedTerminal) where
   abbrev Spelled : Limits → Value program → ℕ → Type 0
   Spelled l p j = Spells ts program whole None 0 l p j
 
@@ -129,7 +129,7 @@ module _ (ts : ℕ → Terminal) where
   -- nothing follows a program
   never_on : (l : Limits) (p : Value program) (j k : ℕ) → Spelled l p j → Opened l k → j < k → ⊥
   never_on l p j k r o lt =
-      let w : In (follow whole) (word_at ts j) = (sound_at ts program whole tested_whole None 0 l).goes_on 0 p j k r o lt in cc w
+      let w : In (follow whole) (terminal_at ts j) = (sound_at ts program whole tested_whole None 0 l).goes_on 0 p j k r o lt in cc w
 
   pub no_longer : (l m : Limits) (p : Value program) (j k : ℕ) → Spelled l p j → Opened m k → k ≤ j
   no_longer l m p j k r o = elim (le_or_lt k j) [
@@ -143,7 +143,7 @@ module _ (ts : ℕ → Terminal) where
       le_or_lt k j = grind arith
 
   -- a program ends where the longest list ends that opens one
-  same_stop : (l : Limits) (p : Value program) (j n : ℕ) → Spelled l p j → Longest ts program whole None 0 n → j ≡ n
+  same_stop : (l : Limits) (p : Value program) (j n : ℕ) → Spelled l p j → LongestPrefix ts program whole None 0 n → j ≡ n
   same_stop l p j n r a =
       let x : j ≤ n = a.longest j (l, opens_spelled ts program whole tested_whole None 0 l p j r) in
       let y : n ≤ j = no_longer l a.opens.0 p j n r a.opens.1 in omega (arith, x, y)

@@ -1,8 +1,8 @@
 -- Two streams whose tokens agree before a place: up to it the same lists open a form.
 use Rattle.std.proofs.Common.{◌≡◌, ℕ, zero, suc, ◌≤◌, ◌<◌, ◌⊎◌, inl, inr, Bool, true, false, ◌&&◌, not, IsTrue, Option, refl, sym, ◌∙◌, ap, subst, arith}
-use Rattle.qt_words.specs.Terminals.{Terminal}
+use Rattle.qt_terminals.specs.Terminals.{PlacedTerminal}
 use Rattle.qt_grammar.specs.Sorts.{Sort, Value, Name, sort}
-use Rattle.qt_grammar.specs.Form.{Form, one, operator, counted, here, empty, as_tree, then_, either, maybe, nearest, chain, named, member, word_at, begun, within, Reading, Opening, ReadsBy, OpensBy, ReadsThen, OpensThen, ReadsMore, ReadsChain, OpensChain, pair_of, stepped}
+use Rattle.qt_grammar.specs.Form.{Form, one, operator, counted, here, empty, as_tree, then_, either, maybe, nearest, chain, named, member, terminal_at, begun, within, Reading, Opening, ReadsBy, OpensBy, ReadsThen, OpensThen, ReadsMore, ReadsChain, OpensChain, pair_of, stepped}
 use Rattle.qt_grammar.specs.Lookahead.{first, nullable, first_of}
 use Rattle.qt_grammar.specs.Language.{rule}
 use Rattle.qt_grammar.specs.Reading.{ReadsTo, OpensTo}
@@ -119,7 +119,7 @@ module _ (n : ℕ) where
 
   -- ---- each form of a tested grammar
 
-  module _ (ts ts' : ℕ → Terminal) (agree : (k : ℕ) → k < n → ts k ≡ ts' k) (cap : ℕ) where
+  module _ (ts ts' : ℕ → PlacedTerminal) (agree : (k : ℕ) → k < n → ts k ≡ ts' k) (cap : ℕ) where
     module _ (nr nr' : (m : Name) → Option ℕ → Reading (Value (sort m))) (no : (m : Name) → Option ℕ → Opening)
         (sane : (m : Name) (e : Option ℕ) → Sane ts (nr m e) (no m e) (In (first_of m)) ⊥ (In (follow_of m)))
         (same_r : (m : Name) (e : Option ℕ) → SameReads (nr m e) (nr' m e)) where
@@ -142,7 +142,7 @@ module _ (n : ℕ) where
       solid_moves f h t e i v j r = elim ((solid_form ts cap nr no sane f h t e).some i v j r) [ inl z ↦ absurd z | inr lt ↦ lt ]
 
       same_begun : (e : Option ℕ) (i : ℕ) → i < n → begun ts e i ≡ begun ts' e i
-      same_begun e i lt = ap (λ (t : Terminal). begun (λ k. t) e i) (agree i lt)
+      same_begun e i lt = ap (λ (t : PlacedTerminal). begun (λ k. t) e i) (agree i lt)
 
       -- the parts of a chain's test
       chain_solid : {s t : Sort} (f : Form s) (g : Form t) (c : Bool) → (c && ((not (nullable f) && not (member 0 (first_item f g))) && (apart (follow f) (first_item f g) && apart (follow g) (first f)))) ≡ true → not (nullable f) ≡ true
@@ -153,14 +153,14 @@ module _ (n : ℕ) where
       pub same_reads : {s : Sort} (f : Form s) → good f ≡ true → (e : Option ℕ) → SameReads (R f e) (R' f e)
       same_reads (one ws) h e i v j lt (w, q, l) =
           let z : ts i ≡ ts' i = agree i (omega (arith, l, lt)) in
-          (subst (λ (t : Terminal). IsTrue (member (word_at (λ k. t) i) ws)) z w, q ∙ z, l)
+          (subst (λ (t : PlacedTerminal). IsTrue (member (terminal_at (λ k. t) i) ws)) z w, q ∙ z, l)
       same_reads (operator ws) h e i v j lt (w, b, q, l) =
           let z : ts i ≡ ts' i = agree i (omega (arith, l, lt)) in
-          (subst (λ (t : Terminal). IsTrue (member (word_at (λ k. t) i) ws)) z w, subst (λ (t : Terminal). IsTrue (within cap e (t.operators))) z b, q ∙ z, l)
+          (subst (λ (t : PlacedTerminal). IsTrue (member (terminal_at (λ k. t) i) ws)) z w, subst (λ (t : PlacedTerminal). IsTrue (within cap e (t.operators))) z b, q ∙ z, l)
       same_reads (counted f) h e i v j lt r =
           let le : i ≤ j = reads_on f h (begun ts e i) i v j r in
           subst (λ t. R' f t i v j) (same_begun e i (omega (arith, le, lt))) (same_reads f h (begun ts e i) i v j lt r)
-      same_reads here h e i v j lt (q, l) = (q ∙ ap (λ (t : Terminal). t.place) (agree i (omega (arith, l, lt))), l)
+      same_reads here h e i v j lt (q, l) = (q ∙ ap (λ (t : PlacedTerminal). t.place) (agree i (omega (arith, l, lt))), l)
       same_reads (empty x) h e i v j lt r = r
       same_reads (as_tree k f) h e i v j lt (x, r, q) = (x, same_reads f h e i x j lt r, q)
       same_reads (then_ k f g) h e i v j lt r =
@@ -172,7 +172,7 @@ module _ (n : ℕ) where
       same_reads (maybe f) h e i v j lt (inl (x, r, q)) = inl (x, same_reads f (and_left (good f) _ h) e i x j lt r, q)
       same_reads (maybe f) h e i v j lt (inr r) = inr r
       same_reads (nearest ws f) h e i v j lt (inl (x, r, q)) = inl (x, same_reads f (left_good (good f) (not (nullable f)) _ h) e i x j lt r, q)
-      same_reads (nearest ws f) h e i v j lt (inr (q, l, w)) = inr (q, l, subst (λ (t : Terminal). member (word_at (λ k. t) i) ws ≡ false) (agree i (omega (arith, l, lt))) w)
+      same_reads (nearest ws f) h e i v j lt (inr (q, l, w)) = inr (q, l, subst (λ (t : PlacedTerminal). member (terminal_at (λ k. t) i) ws ≡ false) (agree i (omega (arith, l, lt))) w)
       same_reads (chain a b f g) h e i v j lt r =
           let gf : good f ≡ true = left_good (good f) (good g) _ h in
           let gg : good g ≡ true = right_good (good f) (good g) _ h in
@@ -187,11 +187,11 @@ module _ (n : ℕ) where
 
         pub same_opens : {s : Sort} (f : Form s) → good f ≡ true → (e : Option ℕ) → SameOpens (O f e) (O' f e)
         same_opens (one ws) h e i k le (inl q) = inl q
-        same_opens (one ws) h e i k le (inr (l, w)) = inr (l, subst (λ (t : Terminal). IsTrue (member (word_at (λ k. t) i) ws)) (agree i (omega (arith, l, le))) w)
+        same_opens (one ws) h e i k le (inr (l, w)) = inr (l, subst (λ (t : PlacedTerminal). IsTrue (member (terminal_at (λ k. t) i) ws)) (agree i (omega (arith, l, le))) w)
         same_opens (operator ws) h e i k le (inl q) = inl q
         same_opens (operator ws) h e i k le (inr (l, w, b)) =
             let z : ts i ≡ ts' i = agree i (omega (arith, l, le)) in
-            inr (l, subst (λ (t : Terminal). IsTrue (member (word_at (λ k. t) i) ws)) z w, subst (λ (t : Terminal). IsTrue (within cap e (t.operators))) z b)
+            inr (l, subst (λ (t : PlacedTerminal). IsTrue (member (terminal_at (λ k. t) i) ws)) z w, subst (λ (t : PlacedTerminal). IsTrue (within cap e (t.operators))) z b)
         same_opens (counted f) h e i k le o = elim (below_or_not i) [
           | inl lt ↦ subst (λ t. O' f t i k) (same_begun e i lt) (same_opens f h (begun ts e i) i k le o)
           | inr ge ↦

@@ -1,8 +1,8 @@
 -- Where a token is refused whatever the limits, the tokens before it spell no tree.
 use Rattle.std.proofs.Common.{◌≡◌, ℕ, zero, suc, ◌≤◌, ◌<◌, ◌⊎◌, inl, inr, Bool, true, false, cond, Ok, Err, refl, ap, subst, arith}
-use Rattle.qt_words.specs.Terminals.{Terminal}
+use Rattle.qt_terminals.specs.Terminals.{PlacedTerminal}
 use Rattle.qt_grammar.specs.declared.refusal.Refusal.TheVariants.{Syntax, Nest, OutOfMemory}
-use Rattle.qt_grammar.specs.Form.{Reading, Opening, word_at, ReadsThen, ReadsMore}
+use Rattle.qt_grammar.specs.Form.{Reading, Opening, terminal_at, ReadsThen, ReadsMore}
 use Rattle.qt_grammar.specs.Outcome.{Outcome, and_then, more_of}
 use Rattle.qt_grammar.proofs.Sane.{same_or_before, Words, Apart, Sane, reads-ahead, more_or_begins, item-moves}
 use Rattle.qt_grammar.proofs.Munch.{Found, Held, Gives}
@@ -64,7 +64,7 @@ and_syntax {A} (Err x) k n h = inl (ap (λ o. elim o as (λ _. Outcome A) [ Ok z
 abbrev pub NoTree : {A : Type 0} → Reading A → ℕ → Outcome A → Type 0
 NoTree {A} r i out = (n : ℕ) (w : A) → out ≡ Err (Syntax n) → r i w n → ⊥
 
-module _ (ts : ℕ → Terminal) where
+module _ (ts : ℕ → PlacedTerminal) where
   module _ {A : Type 0} (r : Reading A) (o : Opening) (f : Words) (none : Type 0) (more : Words) (s : Sane ts r o f none more) where
     pub held_at : (i : ℕ) (out : Outcome A) (n : ℕ) → Gives ts r o more i out → out ≡ Err (Syntax n) → Held ts r o more i n
     held_at i out n g e = subst (λ t. Gives ts r o more i t) e g
@@ -79,12 +79,12 @@ module _ (ts : ℕ → Terminal) where
     gives_ahead i (Err OutOfMemory) g = tt
 
     -- a reading that ends before another place that is opened could go on
-    pub short : (i : ℕ) (x : A) (m l : ℕ) → r i x m → o i l → m ≤ l → (m ≡ l) ⊎ (more (word_at ts m) × (m < l))
+    pub short : (i : ℕ) (x : A) (m l : ℕ) → r i x m → o i l → m ≤ l → (m ≡ l) ⊎ (more (terminal_at ts m) × (m < l))
     short i x m l h h' le = elim (same_or_before m l le) [ inl e ↦ inl e | inr lt ↦ inr (s.goes_on i x m l h h' lt, lt) ]
 
   module _ {A B C : Type 0} (k : A → B → C) (p : Reading A) (po : Opening) (pf : Words) (pn : Type 0) (pm : Words) (q : Reading B) (qo : Opening) (qf : Words) (qn : Type 0) (qm : Words) (sp : Sane ts p po pf pn pm) (sq : Sane ts q qo qf qn qm) (a : Apart pm qf) where
     -- the second part reads nothing from a place where the first could go on
-    never_reads : (m n : ℕ) (y : B) → pm (word_at ts m) → q m y n → m < n → ⊥
+    never_reads : (m n : ℕ) (y : B) → pm (terminal_at ts m) → q m y n → m < n → ⊥
     never_reads m n y w h lt = a _ w (sq.begins m n (sq.whole m y n h) lt)
 
     pub none_then : (i : ℕ) (out : Outcome A) (run : ℕ → Outcome B) → Gives ts p po pm i out → NoTree p i out → ((m : ℕ) → Gives ts q qo qm m (run m)) → ((m : ℕ) → NoTree q m (run m))
@@ -114,7 +114,7 @@ module _ (ts : ℕ → Terminal) where
   module _ {B C : Type 0} (step : C → B → C) (q : Reading B) (qo : Opening) (qf qm : Words) (sq : Sane ts q qo qf ⊥ qm) (a : Apart qm qf)
       (begins : ℕ → Bool) (item : ℕ → Outcome B) (gives : (i : ℕ) → Gives ts q qo qm i (item i)) (none : (i : ℕ) → NoTree q i (item i)) (moves : (i : ℕ) → begins i ≡ true → Moved i (item i)) where
     -- nothing more is read from a place where an item could go on
-    never_more : (k : ℕ) (c : C) (m : ℕ) (w : C) (n : ℕ) → qm (word_at ts m) → ReadsMore step q k c m w n → m < n → ⊥
+    never_more : (k : ℕ) (c : C) (m : ℕ) (w : C) (n : ℕ) → qm (terminal_at ts m) → ReadsMore step q k c m w n → m < n → ⊥
     never_more k c m w n h t lt = elim (more_or_begins ts step q qo qf qm sq a k c m w n t) [ inl e ↦ omega (arith, e.0, lt) | inr z ↦ a _ h z.0 ]
 
     ahead_item : (i : ℕ) → Ahead i (item i)
@@ -171,7 +171,7 @@ module _ (ts : ℕ → Terminal) where
 
   module _ {A B C : Type 0} (first : A → C) (step : C → B → C) (p : Reading A) (po : Opening) (pf pm : Words) (q : Reading B) (qo : Opening) (qf : Words) (qm : Words) (sp : Sane ts p po pf ⊥ pm) (sq : Sane ts q qo qf ⊥ qm) (a : Apart qm qf) (b : Apart pm qf)
       (begins : ℕ → Bool) (item : ℕ → Outcome B) (gives : (i : ℕ) → Gives ts q qo qm i (item i)) (none : (i : ℕ) → NoTree q i (item i)) (moves : (i : ℕ) → begins i ≡ true → Moved i (item i)) where
-    never_items : (k : ℕ) (c : C) (m : ℕ) (w : C) (n : ℕ) → pm (word_at ts m) → ReadsMore step q k c m w n → m < n → ⊥
+    never_items : (k : ℕ) (c : C) (m : ℕ) (w : C) (n : ℕ) → pm (terminal_at ts m) → ReadsMore step q k c m w n → m < n → ⊥
     never_items k c m w n h t lt = elim (more_or_begins ts step q qo qf qm sq a k c m w n t) [ inl e ↦ omega (arith, e.0, lt) | inr z ↦ b _ h z.0 ]
 
     pub none_items : (turns i : ℕ) (out : Outcome A) → Gives ts p po pm i out → NoTree p i out

@@ -1,6 +1,6 @@
 -- The laws, from what reading says.
 use Rattle.std.proofs.Common.{ℕ, subst, ◌≡◌, ◌≢◌, ◌+◌, ◌≤◌, List, None, Result, Ok, Err, refl, sym, ◌∙◌, arith}
-use Rattle.qt_words.specs.Terminals.{Terminal, stream}
+use Rattle.qt_terminals.specs.Terminals.{PlacedTerminal, stream}
 use Rattle.qt_grammar.specs.declared.refusal.Refusal.{Refusal}
 use Rattle.qt_grammar.specs.declared.refusal.Refusal.TheVariants.{Syntax, Nest, OutOfMemory}
 use Rattle.qt_grammar.specs.Sorts.{Value, program, expr}
@@ -16,7 +16,7 @@ use Rattle.qt_grammar.proofs.Limits.{reads_more}
 use Rattle.qt_grammar.proofs.Agree.{opens_before}
 use Rattle.qt_grammar.proofs.Parsers.{form_outcome, form_decides}
 
-some_parse-of : (all : List Terminal) (l : Limits) (out : Outcome (Value program)) → out ≢ Err OutOfMemory → Answers (stream all) program whole None 0 l out
+some_parse-of : (all : List PlacedTerminal) (l : Limits) (out : Outcome (Value program)) → out ≢ Err OutOfMemory → Answers (stream all) program whole None 0 l out
     → (r : Result (Value program) Refusal) × (r ≢ Err OutOfMemory) × Parses (stream all) l r
 some_parse-of all l (Ok z) ne a = (Ok z.0, (λ h. cc h), promise.parses (stream all) l (Ok z.0) (Ok z) a (z.1, refl))
 some_parse-of all l (Err (Syntax n)) ne a = (Err (Syntax n), (λ h. cc h), promise.parses (stream all) l (Err (Syntax n)) (Err (Syntax n)) a (λ m. refl))

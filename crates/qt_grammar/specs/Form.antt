@@ -2,8 +2,8 @@
 -- parts, which tokens spell it with which tree, and which tokens open it. Tokens are told by their places in a stream, so that
 -- 'the tokens from i up to j spell this tree' is said of two numbers.
 use Rattle.std.specs.Prelude.{◌≡◌, ℕ, zero, suc, ◌+◌, ◌⊎◌, Bool, true, false, ◌||◌, eqb, ltb, IsTrue, List, [], ◌∷◌, Option, Some, None}
-use Rattle.qt_words.specs.Words.{code}
-use Rattle.qt_words.specs.Terminals.{Terminal}
+use Rattle.qt_terminals.specs.Alphabet.{code}
+use Rattle.qt_terminals.specs.Terminals.{PlacedTerminal}
 use Rattle.qt_grammar.specs.Sorts.{Sort, Value, Name, sort, place, token, optional}
 
 -- a form of the grammar; words are told by their numbers
@@ -84,27 +84,27 @@ within cap None n = true
 within cap (Some c) n = ltb n (c + cap)
 
 -- `ts i` is the token at place i
-module _ (ts : ℕ → Terminal) where
-  abbrev pub word_at : ℕ → ℕ
-  word_at i = code ((ts i).word)
+module _ (ts : ℕ → PlacedTerminal) where
+  abbrev pub terminal_at : ℕ → ℕ
+  terminal_at i = code ((ts i).terminal)
 
   -- the number of operators before the outermost expression, for one that begins at this place
   abbrev pub begun : Option ℕ → ℕ → Option ℕ
   begun outer i = since outer ((ts i).operators)
 
-  abbrev pub ReadsOne : List ℕ → Reading Terminal
-  ReadsOne ws i v j = IsTrue (member (word_at i) ws) × (v ≡ ts i) × (j ≡ i + 1)
+  abbrev pub ReadsOne : List ℕ → Reading PlacedTerminal
+  ReadsOne ws i v j = IsTrue (member (terminal_at i) ws) × (v ≡ ts i) × (j ≡ i + 1)
 
   abbrev pub OpensOne : List ℕ → Opening
-  OpensOne ws i j = (j ≡ i) ⊎ ((j ≡ i + 1) × IsTrue (member (word_at i) ws))
+  OpensOne ws i j = (j ≡ i) ⊎ ((j ≡ i + 1) × IsTrue (member (terminal_at i) ws))
 
   -- at most `cap` operators in one expression that stands in no other; `outer` is the number of operators before it
   module _ (cap : ℕ) where
-    abbrev pub ReadsOperator : List ℕ → Option ℕ → Reading Terminal
-    ReadsOperator ws outer i v j = IsTrue (member (word_at i) ws) × IsTrue (within cap outer ((ts i).operators)) × (v ≡ ts i) × (j ≡ i + 1)
+    abbrev pub ReadsOperator : List ℕ → Option ℕ → Reading PlacedTerminal
+    ReadsOperator ws outer i v j = IsTrue (member (terminal_at i) ws) × IsTrue (within cap outer ((ts i).operators)) × (v ≡ ts i) × (j ≡ i + 1)
 
     abbrev pub OpensOperator : List ℕ → Option ℕ → Opening
-    OpensOperator ws outer i j = (j ≡ i) ⊎ ((j ≡ i + 1) × IsTrue (member (word_at i) ws) × IsTrue (within cap outer ((ts i).operators)))
+    OpensOperator ws outer i j = (j ≡ i) ⊎ ((j ≡ i + 1) × IsTrue (member (terminal_at i) ws) × IsTrue (within cap outer ((ts i).operators)))
 
     -- what a form reads and opens, where that is known of each name
     module _ (named_reads : (n : Name) → Option ℕ → Reading (Value (sort n))) where
@@ -118,7 +118,7 @@ module _ (ts : ℕ → Terminal) where
       ReadsBy (then_ k f g) outer = ReadsThen k (ReadsBy f outer) (ReadsBy g outer)
       ReadsBy (either f g) outer = λ i v j. ReadsBy f outer i v j ⊎ ReadsBy g outer i v j
       ReadsBy (maybe {s} f) outer = λ i v j. ((x : Value s) × ReadsBy f outer i x j × (v ≡ Some x)) ⊎ ((v ≡ None) × (j ≡ i))
-      ReadsBy (nearest {s} ws f) outer = λ i v j. ((x : Value s) × ReadsBy f outer i x j × (v ≡ Some x)) ⊎ ((v ≡ None) × (j ≡ i) × (member (word_at i) ws ≡ false))
+      ReadsBy (nearest {s} ws f) outer = λ i v j. ((x : Value s) × ReadsBy f outer i x j × (v ≡ Some x)) ⊎ ((v ≡ None) × (j ≡ i) × (member (terminal_at i) ws ≡ false))
       ReadsBy (chain first step f g) outer = ReadsChain first step (ReadsBy f outer) (ReadsBy g outer)
       ReadsBy (named n) outer = named_reads n outer
 

@@ -3,10 +3,12 @@
 -- Productions that share their beginning are written as one, so that the next token decides at each place how to go on.
 use Rattle.std.specs.Prelude.{ℕ, zero, suc, ◌%◌, ◌^◌, true, false, List, [], ◌∷◌, ◌++◌, Option, Some, None}
 use Rattle.qt_tree.specs.declared.place.Place.{Place}
-use Rattle.qt_tree.specs.declared.expression.BinaryOp.{BinaryOp}
-use Rattle.qt_tree.specs.declared.expression.BinaryOp.TheVariants as b
-use Rattle.qt_tree.specs.declared.expression.UnaryOperator.{UnaryOperator}
-use Rattle.qt_tree.specs.declared.expression.UnaryOperator.TheVariants as u
+use Rattle.qt_tree.specs.declared.expression.InfixOperator.{InfixOperator}
+use Rattle.qt_tree.specs.declared.expression.InfixOperator.TheVariants as b
+use Rattle.qt_tree.specs.declared.expression.CompoundOperator.{CompoundOperator}
+use Rattle.qt_tree.specs.declared.expression.CompoundOperator.TheVariants as compound
+use Rattle.qt_tree.specs.declared.expression.PrefixOperator.{PrefixOperator}
+use Rattle.qt_tree.specs.declared.expression.PrefixOperator.TheVariants as u
 use Rattle.qt_tree.specs.declared.expression.Expr.{Expr}
 use Rattle.qt_tree.specs.declared.expression.Expr.TheVariants as e
 use Rattle.qt_tree.specs.declared.expression.Scalar.{Scalar}
@@ -23,17 +25,18 @@ use Rattle.qt_tree.specs.declared.statement.GateCall.{GateCall}
 use Rattle.qt_tree.specs.declared.statement.Sequence.TheVariants as q
 use Rattle.qt_tree.specs.declared.statement.StatementForm.{StatementForm}
 use Rattle.qt_tree.specs.declared.statement.StatementForm.TheVariants as s
+use Rattle.qt_tree.specs.declared.program.Version.{Version}
 use Rattle.qt_tree.specs.declared.program.VersionNumber.TheVariants as v
 use Rattle.qt_tree.specs.declared.program.Item.{Item}
 use Rattle.qt_tree.specs.declared.program.Item.TheVariants as i
 use Rattle.qt_tree.specs.declared.program.ListItem.TheVariants as l
 use Rattle.qt_tree.specs.declared.program.GateForm.TheVariants as f
 use Rattle.qt_tree.specs.declared.program.Parameter.TheVariants as p
-use Rattle.qt_words.specs.declared.word.Word.{Word}
-use Rattle.qt_words.specs.declared.word.Word.TheVariants as w
-use Rattle.qt_words.specs.Words.{code}
-use Rattle.qt_words.specs.Terminals.{Terminal}
-use Rattle.qt_words.specs.Literals.{integer_of, bits_of, bit_count, inside_quotes}
+use Rattle.qt_terminals.specs.declared.terminal.Terminal.{Terminal}
+use Rattle.qt_terminals.specs.declared.terminal.Terminal.TheVariants as w
+use Rattle.qt_terminals.specs.Alphabet.{code}
+use Rattle.qt_terminals.specs.Terminals.{PlacedTerminal}
+use Rattle.qt_terminals.specs.Literals.{integer_of, bits_of, bit_count, inside_quotes}
 use Rattle.qt_grammar.specs.Sorts.{Sort, token, place, nothing, label, expr, scalar, index, range, operand, target, right, modifier, call, sequence, form, statement, entry, gate_form, gate_line, parameter, item, version_number, version, program, name_tail, range_tail, target_tail, statement_tail, item_tail, optional, several, both, Name, any, unary, block, single, an_index, a_range, a_set, an_entry, in_sizeof, in_array, parameters, gate_block, sort}
 use Rattle.qt_grammar.specs.Form.{Form, one, operator, here, empty, as_tree, then_, either, maybe, nearest, chain, counted, named}
 
@@ -60,31 +63,31 @@ f ⊕ g = either f g
 abbrev pub of_which : {A B : Type 0} → A → (A → B) → B
 of_which x f = f x
 
-abbrev pub sign : Word → Form token
-sign k = one (code k ∷ [])
+abbrev pub exactly : Terminal → Form token
+exactly k = one (code k ∷ [])
 
-abbrev pub operator_sign : Word → Form token
-operator_sign k = operator (code k ∷ [])
+abbrev pub exactly_operator : Terminal → Form token
+exactly_operator k = operator (code k ∷ [])
 
 abbrev pub parens : {s : Sort} → Form s → Form s
-parens f = sign w.LeftParen ⊳ f ⊲ sign w.RightParen
+parens f = exactly w.LeftParen ⊳ f ⊲ exactly w.RightParen
 
 abbrev pub brackets : {s : Sort} → Form s → Form s
-brackets f = sign w.LeftBracket ⊳ f ⊲ sign w.RightBracket
+brackets f = exactly w.LeftBracket ⊳ f ⊲ exactly w.RightBracket
 
 abbrev pub braces : {s : Sort} → Form s → Form s
-braces f = sign w.LeftBrace ⊳ f ⊲ sign w.RightBrace
+braces f = exactly w.LeftBrace ⊳ f ⊲ exactly w.RightBrace
 
 abbrev pub ended : {s : Sort} → Form s → Form s
-ended f = f ⊲ sign w.Semicolon
+ended f = f ⊲ exactly w.Semicolon
 
 abbrev pub listed : {A : Type 0} → Option (List A) → List A
 listed None = []
 listed (Some xs) = xs
 
 -- one or more, with commas between, with this sign between, with nothing between
-abbrev pub separated : {s : Sort} → Word → Form s → Form (several s)
-separated {s} k f = chain {s = s} {t = token} {u = several s} (λ x. x ∷ []) (λ xs c x. xs ++ x ∷ []) f (sign k)
+abbrev pub separated : {s : Sort} → Terminal → Form s → Form (several s)
+separated {s} k f = chain {s = s} {t = token} {u = several s} (λ x. x ∷ []) (λ xs c x. xs ++ x ∷ []) f (exactly k)
 
 abbrev pub commas : {s : Sort} → Form s → Form (several s)
 commas f = separated w.Comma f
@@ -98,7 +101,7 @@ or_none {s} f = as_tree {s = optional (several s)} {t = several s} listed (maybe
 
 -- Name
 abbrev pub a_label : Form label
-a_label = as_tree {s = token} {t = label} (λ k. k.spelling) (sign w.Name)
+a_label = as_tree {s = token} {t = label} (λ k. k.spelling) (exactly w.Name)
 
 -- names = Name { "," Name }
 abbrev pub names : Form (several label)
@@ -106,7 +109,7 @@ names = commas a_label
 
 -- ---- expressions
 
-abbrev pub binary_op : Word → BinaryOp
+abbrev pub binary_op : Terminal → InfixOperator
 binary_op w.OrOr = b.LogicalOr
 binary_op w.AndAnd = b.LogicalAnd
 binary_op w.Or = b.Or
@@ -127,20 +130,20 @@ binary_op w.Slash = b.Div
 binary_op w.Percent = b.Rem
 binary_op _ = b.Pow
 
-abbrev pub unary_op : Word → UnaryOperator
+abbrev pub unary_op : Terminal → PrefixOperator
 unary_op w.Bang = u.Not
 unary_op w.Tilde = u.Turn
 unary_op _ = u.Neg
 
-abbrev pub joined : Expr → Terminal → Expr → Expr
-joined before k behind = e.Binary (binary_op k.word) before behind
+abbrev pub joined : Expr → PlacedTerminal → Expr → Expr
+joined before k behind = e.Binary (binary_op k.terminal) before behind
 
 abbrev pub powered : Expr → Option Expr → Expr
 powered base None = base
 powered base (Some exponent) = e.Binary b.Pow base exponent
 
-abbrev pub signed : Terminal → Expr → Expr
-signed k x = e.Unary (unary_op k.word) x
+abbrev pub signed : PlacedTerminal → Expr → Expr
+signed k x = e.Unary (unary_op k.terminal) x
 
 -- exprs = expr { "," expr }, each in parentheses or brackets
 abbrev pub arguments : Form (several expr)
@@ -159,15 +162,15 @@ abbrev pub size : Form expr
 size = brackets {s = expr} (named any)
 
 -- scalar = "bool" | ( "bit" | "int" | "uint" | "angle" ) [ "[" expr "]" ]
-abbrev pub sized : Word → (Option Expr → Scalar) → Form scalar
-sized k make = as_tree {s = optional expr} {t = scalar} make (sign k ⊳ maybe size)
+abbrev pub sized : Terminal → (Option Expr → Scalar) → Form scalar
+sized k make = as_tree {s = optional expr} {t = scalar} make (exactly k ⊳ maybe size)
 
 abbrev pub a_scalar : Form scalar
-a_scalar = as_tree {s = token} {t = scalar} (λ k. t.Bool) (sign w.Bool) ⊕ sized w.Bit t.Bit ⊕ sized w.Int t.Int ⊕ sized w.Uint t.Uint ⊕ sized w.Angle t.Angle
+a_scalar = as_tree {s = token} {t = scalar} (λ k. t.Bool) (exactly w.Bool) ⊕ sized w.Bit t.Bit ⊕ sized w.Int t.Int ⊕ sized w.Uint t.Uint ⊕ sized w.Angle t.Angle
 
 -- Integer | BitText | Constant | "true" | "false"
-abbrev pub literal : Word → (List ℕ → Expr) → Form expr
-literal k make = as_tree {s = token} {t = expr} (λ c. make c.spelling) (sign k)
+abbrev pub literal : Terminal → (List ℕ → Expr) → Form expr
+literal k make = as_tree {s = token} {t = expr} (λ c. make c.spelling) (exactly k)
 
 abbrev pub literals : Form expr
 literals = literal w.Integer (λ c. e.Whole (integer_of c % 2 ^ 64)) ⊕ literal w.BitText (λ c. e.BitText (bits_of c) (bit_count c))
@@ -191,7 +194,7 @@ cast = then_ {s = scalar} {t = expr} {u = expr} (λ to x. e.Cast to x) a_scalar 
 
 -- "sizeof" "(" Name [ "," expr ] ")"
 abbrev pub size_of : Form expr
-size_of = as_tree {s = both label (optional expr)} {t = expr} (λ c. e.SizeOf c.0 c.1) (sign w.SizeOf ⊳ parens {s = both label (optional expr)} (named in_sizeof))
+size_of = as_tree {s = both label (optional expr)} {t = expr} (λ c. e.SizeOf c.0 c.1) (exactly w.SizeOf ⊳ parens {s = both label (optional expr)} (named in_sizeof))
 
 abbrev pub parenthesized : Form expr
 parenthesized = as_tree {s = expr} {t = expr} e.Parenthesized (parens {s = expr} (named any))
@@ -204,7 +207,7 @@ abbrev pub negated : Form expr
 negated = then_ {s = token} {t = expr} {u = expr} signed (operator (code w.Minus ∷ code w.Bang ∷ code w.Tilde ∷ [])) (named unary)
 
 abbrev pub power : Form expr
-power = then_ {s = expr} {t = optional expr} {u = expr} powered primary (maybe {s = expr} (operator_sign w.StarStar ⊳ named unary))
+power = then_ {s = expr} {t = optional expr} {u = expr} powered primary (maybe {s = expr} (exactly_operator w.StarStar ⊳ named unary))
 
 abbrev pub factor : Form expr
 factor = negated ⊕ power
@@ -249,7 +252,7 @@ range_of (Some (x, Some last)) start = record { start = start; step = Some x; en
 
 abbrev pub behind_start : Form range_tail
 behind_start = as_tree {s = optional (both expr (optional (optional expr)))} {t = range_tail} range_of
-    (sign w.Colon ⊳ maybe (expression ⊗ maybe (sign w.Colon ⊳ maybe expression)))
+    (exactly w.Colon ⊳ maybe (expression ⊗ maybe (exactly w.Colon ⊳ maybe expression)))
 
 abbrev pub range_form : Form range
 range_form = as_tree {s = range_tail} {t = range} (λ tail. tail None) behind_start
@@ -284,7 +287,7 @@ a_target = then_ {s = label} {t = several (several index)} {u = target} (λ name
 
 -- "measure" operand
 abbrev pub measured : Form operand
-measured = sign w.Measure ⊳ an_operand
+measured = exactly w.Measure ⊳ an_operand
 
 -- right = "measure" operand | expr
 abbrev pub a_right : Form right
@@ -292,21 +295,21 @@ a_right = as_tree {s = operand} {t = right} r.Measure measured ⊕ as_tree {s = 
 
 -- "=" right
 abbrev pub first_value : Form right
-first_value = sign w.Assign ⊳ a_right
+first_value = exactly w.Assign ⊳ a_right
 
 -- modifier = "inv" | "pow" "(" expr ")" | ( "ctrl" | "negctrl" ) [ "(" expr ")" ]
-abbrev pub controls : Word → (Option Expr → Modifier) → Form modifier
-controls k make = as_tree {s = optional expr} {t = modifier} make (sign k ⊳ maybe (parens {s = expr} (named any)))
+abbrev pub controls : Terminal → (Option Expr → Modifier) → Form modifier
+controls k make = as_tree {s = optional expr} {t = modifier} make (exactly k ⊳ maybe (parens {s = expr} (named any)))
 
 abbrev pub a_modifier : Form modifier
-a_modifier = as_tree {s = token} {t = modifier} (λ k. m.Inv) (sign w.Inv)
-    ⊕ as_tree {s = expr} {t = modifier} m.Pow (sign w.Pow ⊳ parens {s = expr} (named any))
+a_modifier = as_tree {s = token} {t = modifier} (λ k. m.Inv) (exactly w.Inv)
+    ⊕ as_tree {s = expr} {t = modifier} m.Pow (exactly w.Pow ⊳ parens {s = expr} (named any))
     ⊕ controls w.Ctrl m.Ctrl ⊕ controls w.NegCtrl m.NegCtrl
 
 -- "gphase" "(" expr ")" [ operands ]
 abbrev pub phase_call : Form call
 phase_call = as_tree {s = both expr (several operand)} {t = call} (λ c. record { modifiers = []; gate = g.GlobalPhase c.0; operands = c.1 })
-    (sign w.GPhase ⊳ parens {s = expr} (named any) ⊗ or_none {s = operand} operands)
+    (exactly w.GPhase ⊳ parens {s = expr} (named any) ⊗ or_none {s = operand} operands)
 
 -- Name [ "(" [ exprs ] ")" ] operands
 abbrev pub named_call : Form call
@@ -318,7 +321,7 @@ abbrev pub under : List Modifier → GateCall → GateCall
 under ms c = record { modifiers = ms; gate = c.gate; operands = c.operands }
 
 abbrev pub modified_call : Form call
-modified_call = then_ {s = several modifier} {t = call} {u = call} under (some {s = modifier} (a_modifier ⊲ sign w.At)) (phase_call ⊕ named_call)
+modified_call = then_ {s = several modifier} {t = call} {u = call} under (some {s = modifier} (a_modifier ⊲ exactly w.At)) (phase_call ⊕ named_call)
 
 -- gatecall, but for its semicolon
 abbrev pub gate_call : Form call
@@ -332,29 +335,29 @@ declaration = as_tree {s = both scalar (both label (optional right))} {t = form}
 
 -- "creg" Name [ "[" expr "]" ] ";"
 abbrev pub bit_register : Form form
-bit_register = as_tree {s = both label (optional expr)} {t = form} (λ c. s.BitRegister c.0 c.1) (ended (sign w.Creg ⊳ a_label ⊗ maybe size))
+bit_register = as_tree {s = both label (optional expr)} {t = form} (λ c. s.BitRegister c.0 c.1) (ended (exactly w.Creg ⊳ a_label ⊗ maybe size))
 
 -- "const" scalar Name "=" expr ";"
 abbrev pub constant : Form form
-constant = as_tree {s = both scalar (both label expr)} {t = form} (λ c. s.Constant c.0 c.1.0 c.1.1) (ended (sign w.Const ⊳ a_scalar ⊗ a_label ⊗ (sign w.Assign ⊳ expression)))
+constant = as_tree {s = both scalar (both label expr)} {t = form} (λ c. s.Constant c.0 c.1.0 c.1.1) (ended (exactly w.Const ⊳ a_scalar ⊗ a_label ⊗ (exactly w.Assign ⊳ expression)))
 
 -- "let" Name "=" operand { "++" operand } ";"
 abbrev pub alias : Form form
-alias = as_tree {s = both label (several operand)} {t = form} (λ c. s.Alias c.0 c.1) (ended (sign w.Let ⊳ a_label ⊗ (sign w.Assign ⊳ separated w.PlusPlus an_operand)))
+alias = as_tree {s = both label (several operand)} {t = form} (λ c. s.Alias c.0 c.1) (ended (exactly w.Let ⊳ a_label ⊗ (exactly w.Assign ⊳ separated w.PlusPlus an_operand)))
 
 -- "=" right | compound expr, behind a target
-abbrev pub compound_op : Word → BinaryOp
-compound_op w.PlusAssign = b.Add
-compound_op w.MinusAssign = b.Sub
-compound_op w.StarAssign = b.Mul
-compound_op w.SlashAssign = b.Div
-compound_op w.PercentAssign = b.Rem
-compound_op w.StarStarAssign = b.Pow
-compound_op w.AndAssign = b.And
-compound_op w.OrAssign = b.Or
-compound_op w.CaretAssign = b.Xor
-compound_op w.ShiftLeftAssign = b.Shl
-compound_op _ = b.Shr
+abbrev pub compound_op : Terminal → CompoundOperator
+compound_op w.PlusAssign = compound.Add
+compound_op w.MinusAssign = compound.Sub
+compound_op w.StarAssign = compound.Mul
+compound_op w.SlashAssign = compound.Div
+compound_op w.PercentAssign = compound.Rem
+compound_op w.StarStarAssign = compound.Pow
+compound_op w.AndAssign = compound.And
+compound_op w.OrAssign = compound.Or
+compound_op w.CaretAssign = compound.Xor
+compound_op w.ShiftLeftAssign = compound.Shl
+compound_op _ = compound.Shr
 
 abbrev pub compounds : List ℕ
 compounds = code w.PlusAssign ∷ code w.MinusAssign ∷ code w.StarAssign ∷ code w.SlashAssign ∷ code w.PercentAssign ∷ code w.StarStarAssign
@@ -362,7 +365,7 @@ compounds = code w.PlusAssign ∷ code w.MinusAssign ∷ code w.StarAssign ∷ c
 
 abbrev pub behind_target : Form target_tail
 behind_target = as_tree {s = right} {t = target_tail} (λ x to. s.Assignment to x) first_value
-    ⊕ then_ {s = token} {t = expr} {u = target_tail} (λ k x to. s.CompoundAssignment to (compound_op k.word) x) (one compounds) expression
+    ⊕ then_ {s = token} {t = expr} {u = target_tail} (λ k x to. s.CompoundAssignment to (compound_op k.terminal) x) (one compounds) expression
 
 -- Name "(" [ exprs ] ")" [ operands ]: a subroutine's call, or a gate's where operands follow
 abbrev pub call_of : List Expr → Option (List Operand) → List ℕ → StatementForm
@@ -385,15 +388,15 @@ gate_statement = as_tree {s = call} {t = form} s.Gate (ended (modified_call ⊕ 
 
 -- "measure" operand [ "->" target ] ";"
 abbrev pub measurement : Form form
-measurement = as_tree {s = both operand (optional target)} {t = form} (λ c. s.Measure c.0 c.1) (ended (measured ⊗ maybe (sign w.Arrow ⊳ a_target)))
+measurement = as_tree {s = both operand (optional target)} {t = form} (λ c. s.Measure c.0 c.1) (ended (measured ⊗ maybe (exactly w.Arrow ⊳ a_target)))
 
 -- "reset" operand ";"
 abbrev pub reset : Form form
-reset = as_tree {s = operand} {t = form} s.Reset (ended (sign w.Reset ⊳ an_operand))
+reset = as_tree {s = operand} {t = form} s.Reset (ended (exactly w.Reset ⊳ an_operand))
 
 -- "barrier" [ operands ] ";"
 abbrev pub barrier : Form form
-barrier = as_tree {s = several operand} {t = form} s.Barrier (ended (sign w.Barrier ⊳ or_none {s = operand} operands))
+barrier = as_tree {s = several operand} {t = form} s.Barrier (ended (exactly w.Barrier ⊳ or_none {s = operand} operands))
 
 -- block = "{" { statement } "}"
 abbrev pub a_block : Form (several statement)
@@ -410,11 +413,11 @@ condition = parens {s = expr} (named any)
 -- "if" "(" expr ")" body [ "else" body ], where an `else` belongs to the nearest `if`
 abbrev pub if_else : Form form
 if_else = as_tree {s = both expr (both (several statement) (optional (several statement)))} {t = form} (λ c. s.If c.0 c.1.0 c.1.1)
-    (sign w.If ⊳ condition ⊗ body ⊗ nearest (code w.Else ∷ []) (sign w.Else ⊳ body))
+    (exactly w.If ⊳ condition ⊗ body ⊗ nearest (code w.Else ∷ []) (exactly w.Else ⊳ body))
 
 -- "while" "(" expr ")" body
 abbrev pub while_loop : Form form
-while_loop = as_tree {s = both expr (several statement)} {t = form} (λ c. s.While c.0 c.1) (sign w.While ⊳ condition ⊗ body)
+while_loop = as_tree {s = both expr (several statement)} {t = form} (λ c. s.While c.0 c.1) (exactly w.While ⊳ condition ⊗ body)
 
 -- "[" range "]" | "{" exprs "}" | Name
 abbrev pub a_sequence : Form sequence
@@ -424,19 +427,19 @@ a_sequence = as_tree {s = range} {t = sequence} q.Range (brackets {s = range} (n
 -- "for" scalar Name "in" ( .. ) body
 abbrev pub for_loop : Form form
 for_loop = as_tree {s = both scalar (both label (both sequence (several statement)))} {t = form} (λ c. s.For c.0 c.1.0 c.1.1.0 c.1.1.1)
-    (sign w.For ⊳ a_scalar ⊗ a_label ⊗ (sign w.In ⊳ a_sequence) ⊗ body)
+    (exactly w.For ⊳ a_scalar ⊗ a_label ⊗ (exactly w.In ⊳ a_sequence) ⊗ body)
 
 -- "break" ";" | "continue" ";" | "end" ";"
-abbrev pub word_alone : Word → StatementForm → Form form
-word_alone k x = as_tree {s = token} {t = form} (λ c. x) (ended (sign k))
+abbrev pub keyword_alone : Terminal → StatementForm → Form form
+keyword_alone k x = as_tree {s = token} {t = form} (λ c. x) (ended (exactly k))
 
 -- "return" [ right ] ";"
 abbrev pub return : Form form
-return = as_tree {s = optional right} {t = form} s.Return (ended (sign w.Return ⊳ maybe a_right))
+return = as_tree {s = optional right} {t = form} s.Return (ended (exactly w.Return ⊳ maybe a_right))
 
 abbrev pub statement_form : Form form
 statement_form = declaration ⊕ bit_register ⊕ constant ⊕ alias ⊕ by_name ⊕ gate_statement ⊕ measurement ⊕ reset ⊕ barrier ⊕ if_else ⊕ while_loop ⊕ for_loop
-    ⊕ word_alone w.Break s.Break ⊕ word_alone w.Continue s.Continue ⊕ return ⊕ word_alone w.EndWord s.End
+    ⊕ keyword_alone w.Break s.Break ⊕ keyword_alone w.Continue s.Continue ⊕ return ⊕ keyword_alone w.EndWord s.End
 
 abbrev pub a_statement : Form statement
 a_statement = then_ {s = place} {t = form} {u = statement} (λ at x. record { place = at; form = x }) here statement_form
@@ -445,22 +448,22 @@ a_statement = then_ {s = place} {t = form} {u = statement} (λ at x. record { pl
 
 -- include = "include" Text ";"
 abbrev pub include : Form item_tail
-include = as_tree {s = token} {t = item_tail} (λ k at. i.Include at (inside_quotes k.spelling)) (ended (sign w.Include ⊳ one (code w.Text ∷ code w.BitText ∷ [])))
+include = as_tree {s = token} {t = item_tail} (λ k at. i.Include at (inside_quotes k.spelling)) (ended (exactly w.Include ⊳ one (code w.Text ∷ code w.BitText ∷ [])))
 
 -- io = ( "input" | "output" ) scalar Name ";"
-abbrev pub interface : Word → (Place → Scalar → List ℕ → Item) → Form item_tail
-interface k make = as_tree {s = both scalar label} {t = item_tail} (λ c at. make at c.0 c.1) (ended (sign k ⊳ a_scalar ⊗ a_label))
+abbrev pub interface : Terminal → (Place → Scalar → List ℕ → Item) → Form item_tail
+interface k make = as_tree {s = both scalar label} {t = item_tail} (λ c at. make at c.0 c.1) (ended (exactly k ⊳ a_scalar ⊗ a_label))
 
 -- "qubit" [ "[" expr "]" ] Name
 abbrev pub qubits : Form (both (optional expr) label)
-qubits = sign w.Qubit ⊳ maybe size ⊗ a_label
+qubits = exactly w.Qubit ⊳ maybe size ⊗ a_label
 
 -- qubits = "qubit" [ "[" expr "]" ] Name ";" | "qreg" Name [ "[" expr "]" ] ";"
 abbrev pub qubit_item : Form item_tail
 qubit_item = as_tree {s = both (optional expr) label} {t = item_tail} (λ c at. i.Qubit at c.0 c.1) (ended qubits)
 
 abbrev pub register_item : Form item_tail
-register_item = as_tree {s = both label (optional expr)} {t = item_tail} (λ c at. i.QubitRegister at c.0 c.1) (ended (sign w.Qreg ⊳ a_label ⊗ maybe size))
+register_item = as_tree {s = both label (optional expr)} {t = item_tail} (λ c at. i.QubitRegister at c.0 c.1) (ended (exactly w.Qreg ⊳ a_label ⊗ maybe size))
 
 -- list = "{" item { "," item } "}"   item = list | expr
 abbrev pub list : Form (several entry)
@@ -473,12 +476,12 @@ entry_form = as_tree {s = several entry} {t = entry} l.List list ⊕ as_tree {s 
 abbrev pub array_item : Form item_tail
 array_item = as_tree {s = both (both scalar (several expr)) (both label (optional (several entry)))} {t = item_tail}
     (λ c at. i.Array (record { place = at; scalar = c.0.0; dimensions = c.0.1; name = c.1.0; value = c.1.1 }))
-    (ended (sign w.Array ⊳ brackets {s = both scalar (several expr)} (named in_array) ⊗ a_label ⊗ maybe (sign w.Assign ⊳ list)))
+    (ended (exactly w.Array ⊳ brackets {s = both scalar (several expr)} (named in_array) ⊗ a_label ⊗ maybe (exactly w.Assign ⊳ list)))
 
 -- gatecall | "barrier" [ names ] ";"
 abbrev pub gate_line_form : Form gate_form
 gate_line_form = as_tree {s = call} {t = gate_form} f.Call (ended gate_call)
-    ⊕ as_tree {s = several label} {t = gate_form} f.Barrier (ended (sign w.Barrier ⊳ or_none {s = label} names))
+    ⊕ as_tree {s = several label} {t = gate_form} f.Barrier (ended (exactly w.Barrier ⊳ or_none {s = label} names))
 
 abbrev pub a_gate_line : Form gate_line
 a_gate_line = then_ {s = place} {t = gate_form} {u = gate_line} (λ at x. record { place = at; form = x }) here gate_line_form
@@ -487,7 +490,7 @@ a_gate_line = then_ {s = place} {t = gate_form} {u = gate_line} (λ at x. record
 abbrev pub gate_item : Form item_tail
 gate_item = as_tree {s = both label (both (optional (several label)) (both (several label) (several gate_line)))} {t = item_tail}
     (λ c at. i.Gate (record { place = at; name = c.0; parameters = c.1.0; qubits = c.1.1.0; body = c.1.1.1 }))
-    (sign w.Gate ⊳ a_label ⊗ maybe (parens (or_none {s = label} names)) ⊗ names ⊗ braces (or_none {s = gate_line} (named gate_block)))
+    (exactly w.Gate ⊳ a_label ⊗ maybe (parens (or_none {s = label} names)) ⊗ names ⊗ braces (or_none {s = gate_line} (named gate_block)))
 
 -- param = scalar Name | "qubit" [ "[" expr "]" ] Name
 abbrev pub a_parameter : Form parameter
@@ -498,7 +501,7 @@ a_parameter = then_ {s = scalar} {t = label} {u = parameter} (λ x name. p.Class
 abbrev pub definition : Form item_tail
 definition = as_tree {s = both label (both (several parameter) (both (optional scalar) (several statement)))} {t = item_tail}
     (λ c at. i.Definition (record { place = at; name = c.0; parameters = c.1.0; result = c.1.1.0; body = c.1.1.1 }))
-    (sign w.Def ⊳ a_label ⊗ parens (or_none {s = parameter} (named parameters)) ⊗ maybe (sign w.Arrow ⊳ a_scalar) ⊗ a_block)
+    (exactly w.Def ⊳ a_label ⊗ parens (or_none {s = parameter} (named parameters)) ⊗ maybe (exactly w.Arrow ⊳ a_scalar) ⊗ a_block)
 
 abbrev pub statement_item : Form item_tail
 statement_item = as_tree {s = form} {t = item_tail} (λ x at. i.Statement (record { place = at; form = x })) statement_form
@@ -510,16 +513,21 @@ global = then_ {s = place} {t = item_tail} {u = item} of_which here
 
 -- version = "OPENQASM" ( Integer | Decimal ) ";"
 abbrev pub number_form : Form version_number
-number_form = as_tree {s = token} {t = version_number} (λ k. v.Integer (integer_of k.spelling % 2 ^ 64)) (sign w.Integer)
-    ⊕ as_tree {s = token} {t = version_number} (λ k. v.Decimal k.spelling) (sign w.Decimal)
+number_form = as_tree {s = token} {t = version_number} (λ k. v.Integer (integer_of k.spelling % 2 ^ 64)) (exactly w.Integer)
+    ⊕ as_tree {s = token} {t = version_number} (λ k. v.Decimal k.spelling) (exactly w.Decimal)
 
 abbrev pub version_form : Form version
-version_form = then_ {s = place} {t = version_number} {u = version} (λ at x. record { place = at; number = x }) here (ended (sign w.OpenQasm ⊳ number_form))
+version_form = then_ {s = place} {t = version_number} {u = version} (λ at x. record { place = at; number = x }) here (ended (exactly w.OpenQasm ⊳ number_form))
+
+-- the versions of a text: one, or none
+abbrev pub versions_of : Option Version → List Version
+versions_of None = []
+versions_of (Some version) = version ∷ []
 
 -- program = [ version ] { global }, and then the end of the text
 abbrev pub whole : Form program
-whole = as_tree {s = both (optional version) (both (several item) token)} {t = program} (λ c. record { version = c.0; items = c.1.0; end = c.1.1.place })
-    (maybe version_form ⊗ or_none {s = item} (some global) ⊗ sign w.End)
+whole = as_tree {s = both (optional version) (both (several item) token)} {t = program} (λ c. record { versions = versions_of c.0; items = c.1.0; end = c.1.1.place })
+    (maybe version_form ⊗ or_none {s = item} (some global) ⊗ exactly w.End)
 
 -- ---- the forms with names
 
@@ -532,7 +540,7 @@ rule an_index = index_form
 rule a_range = range_form
 rule a_set = expressions
 rule an_entry = commas entry_form
-rule in_sizeof = a_label ⊗ maybe (sign w.Comma ⊳ expression)
-rule in_array = a_scalar ⊗ (sign w.Comma ⊳ expressions)
+rule in_sizeof = a_label ⊗ maybe (exactly w.Comma ⊳ expression)
+rule in_array = a_scalar ⊗ (exactly w.Comma ⊳ expressions)
 rule parameters = commas a_parameter
 rule gate_block = some a_gate_line

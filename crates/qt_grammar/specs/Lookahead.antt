@@ -1,7 +1,7 @@
--- Which words a form begins with: FIRST, in the field's word. Aho, Lam, Sethi and Ullman, "Compilers", section 4.4.
+-- Which words a form begins with: FIRST, in the field's words. Aho, Lam, Sethi and Ullman, "Compilers", section 4.4.
 use Rattle.std.specs.Prelude.{ℕ, Bool, true, false, ◌&&◌, if◌then◌else◌, List, [], ◌∷◌, ◌++◌}
-use Rattle.qt_words.specs.declared.word.Word.TheVariants as w
-use Rattle.qt_words.specs.Words.{code}
+use Rattle.qt_terminals.specs.declared.terminal.Terminal.TheVariants as w
+use Rattle.qt_terminals.specs.Alphabet.{code}
 use Rattle.qt_grammar.specs.Sorts.{Sort, Name, any, unary, block, single, an_index, a_range, a_set, an_entry, in_sizeof, in_array, parameters, gate_block}
 use Rattle.qt_grammar.specs.Form.{Form, one, operator, counted, here, empty, as_tree, then_, either, maybe, nearest, chain, named}
 

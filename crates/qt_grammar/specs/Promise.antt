@@ -3,8 +3,8 @@
 use Rattle.std.specs.Prelude.{◌≡◌, ℕ, ◌+◌, ◌≤◌, List, Option, None, Result, Ok, Err}
 use Rattle.qt_grammar.specs.declared.refusal.Refusal.{Refusal}
 use Rattle.qt_grammar.specs.declared.refusal.Refusal.TheVariants.{Syntax, Nest, OutOfMemory}
-use Rattle.qt_words.specs.declared.word.Word.TheVariants as w
-use Rattle.qt_words.specs.Terminals.{Terminal, stream, with_word}
+use Rattle.qt_terminals.specs.declared.terminal.Terminal.TheVariants as w
+use Rattle.qt_terminals.specs.Terminals.{PlacedTerminal, stream, with_terminal}
 use Rattle.qt_grammar.specs.Sorts.{Sort, Value, program}
 use Rattle.qt_grammar.specs.Form.{Form, ReadsBy, OpensBy}
 use Rattle.qt_grammar.specs.Outcome.{Outcome}
@@ -12,7 +12,7 @@ use Rattle.qt_grammar.specs.Language.{whole}
 use Rattle.qt_grammar.specs.Reading.{Limits, ReadsTo, OpensTo}
 
 -- a form, read from a place on; `outer` is the number of operators before the outermost expression round that place
-module _ (ts : ℕ → Terminal) (s : Sort) (f : Form s) (outer : Option ℕ) (i : ℕ) where
+module _ (ts : ℕ → PlacedTerminal) (s : Sort) (f : Form s) (outer : Option ℕ) (i : ℕ) where
   -- the tokens up to place j spell a tree, within limits
   abbrev pub Spells : Limits → Value s → ℕ → Type 0
   Spells l v j = ReadsBy ts l.operators (ReadsTo ts l.operators l.levels) f outer i v j
@@ -29,19 +29,19 @@ module _ (ts : ℕ → Terminal) (s : Sort) (f : Form s) (outer : Option ℕ) (i
   OpensAtAll j = (l : Limits) × Opens l j
 
   -- the longest list of tokens that opens the form ends before place j; the limits play no part
-  pub record Longest (j : ℕ) : Type 0 where
+  pub record LongestPrefix (j : ℕ) : Type 0 where
     pub opens : OpensAtAll j
     pub longest : (k : ℕ) → OpensAtAll k → k ≤ j
 
   -- that list is the form, with this tree and no other, and within the limits: none of its tokens is too deep
   pub record Tree (l : Limits) (v : Value s) (j : ℕ) : Type 0 where
     pub spells : Spells l v j
-    pub longest : Longest j
+    pub longest : LongestPrefix j
     pub only : (w : Value s) → SpellsAtAll w j → w ≡ v
 
   -- that list isn't the form: the token behind it is the stopper
   pub record Stopper (n : ℕ) : Type 0 where
-    pub longest : Longest n
+    pub longest : LongestPrefix n
     pub none : (v : Value s) → SpellsAtAll v n → ⊥
 
   -- the first token that is too deep, or an operator too many: the tokens before it open the form within the limits, but with
@@ -61,7 +61,7 @@ module _ (ts : ℕ → Terminal) (s : Sort) (f : Form s) (outer : Option ℕ) (i
 
 -- ---- a program, which ends with the end of the text
 
-module _ (ts : ℕ → Terminal) where
+module _ (ts : ℕ → PlacedTerminal) where
   abbrev pub SpellsProgram : Limits → Value program → Type 0
   SpellsProgram l p = (j : ℕ) × Spells ts program whole None 0 l p j
 
@@ -73,7 +73,7 @@ module _ (ts : ℕ → Terminal) where
   -- the tokens spell no program whatever the limits, and this is the stopper; no token before it is too deep
   pub record NoProgram (l : Limits) (n : ℕ) : Type 0 where
     pub none : (m : Limits) (p : Value program) → SpellsProgram m p → ⊥
-    pub longest : Longest ts program whole None 0 n
+    pub longest : LongestPrefix ts program whole None 0 n
     pub before : Opens ts program whole None 0 l n
 
   abbrev pub Parses : Limits → Result (Value program) Refusal → Type 0
@@ -82,7 +82,7 @@ module _ (ts : ℕ → Terminal) where
   Parses l (Err (Nest n)) = FirstTooDeep ts program whole None 0 l n
   Parses l (Err OutOfMemory) = Unit {0}
 
--- A statement, or a gate call in a gate's body, could begin at the token at place n of a program: the word `barrier` in its
+-- A statement, or a gate call in a gate's body, could begin at the token at place n of a program: the terminal `barrier` in its
 -- place opens. It begins both, and nothing else.
-abbrev pub CouldBegin : List Terminal → ℕ → Type 0
-CouldBegin all n = OpensAtAll (stream (with_word all n w.Barrier)) program whole None 0 (n + 1)
+abbrev pub CouldBegin : List PlacedTerminal → ℕ → Type 0
+CouldBegin all n = OpensAtAll (stream (with_terminal all n w.Barrier)) program whole None 0 (n + 1)

@@ -21,7 +21,7 @@ use Rattle.qt_tree.specs.declared.program.ListItem.{ListItem}
 use Rattle.qt_tree.specs.declared.program.GateStatement.{GateStatement}
 use Rattle.qt_tree.specs.declared.program.GateForm.{GateForm}
 use Rattle.qt_tree.specs.declared.program.Parameter.{Parameter}
-use Rattle.qt_words.specs.Terminals.{Terminal}
+use Rattle.qt_terminals.specs.Terminals.{PlacedTerminal}
 
 -- what a form reads. Where a form is a tail, whose tree needs what stands before it, it reads a function of that
 pub data Sort : Type 0 where
@@ -64,7 +64,7 @@ pub data Sort : Type 0 where
   both : Sort → Sort → Sort
 
 abbrev pub Value : Sort → Type 0
-Value token = Terminal
+Value token = PlacedTerminal
 Value place = Place
 Value nothing = Unit {0}
 Value label = List ℕ

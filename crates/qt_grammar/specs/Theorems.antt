@@ -1,6 +1,6 @@
 -- The laws of the grammar and of reading it.
 use Rattle.std.specs.Prelude.{◌≡◌, ◌≢◌, ℕ, ◌≤◌, ◌<◌, List, Option, None, Result, Ok, Err}
-use Rattle.qt_words.specs.Terminals.{Terminal, stream}
+use Rattle.qt_terminals.specs.Terminals.{PlacedTerminal, stream}
 use Rattle.qt_grammar.specs.declared.refusal.Refusal.{Refusal}
 use Rattle.qt_grammar.specs.declared.refusal.Refusal.TheVariants.{Syntax, Nest, OutOfMemory}
 use Rattle.qt_grammar.specs.Sorts.{Value, expr, program}
@@ -11,43 +11,43 @@ use Rattle.qt_grammar.specs.Promise.{Opens, OpensAtAll, Stopper, FirstTooDeep, A
 
 -- tokens spell one program at most, whatever the limits
 abbrev pub OneProgram : Type 0
-OneProgram = (all : List Terminal) (l m : Limits) (p q : Value program) → SpellsProgram (stream all) l p → SpellsProgram (stream all) m q → p ≡ q
+OneProgram = (all : List PlacedTerminal) (l m : Limits) (p q : Value program) → SpellsProgram (stream all) l p → SpellsProgram (stream all) m q → p ≡ q
 
 -- for all tokens and limits some answer of a parser is right, and no other: the program, the stopper or the first token too deep
 abbrev pub SomeParse : Type 0
-SomeParse = (all : List Terminal) (l : Limits) → (r : Result (Value program) Refusal) × (r ≢ Err OutOfMemory) × Parses (stream all) l r
+SomeParse = (all : List PlacedTerminal) (l : Limits) → (r : Result (Value program) Refusal) × (r ≢ Err OutOfMemory) × Parses (stream all) l r
 
 abbrev pub OneParse : Type 0
-OneParse = (all : List Terminal) (l : Limits) (a b : Result (Value program) Refusal) → a ≢ Err OutOfMemory → b ≢ Err OutOfMemory → Parses (stream all) l a → Parses (stream all) l b → a ≡ b
+OneParse = (all : List PlacedTerminal) (l : Limits) (a b : Result (Value program) Refusal) → a ≢ Err OutOfMemory → b ≢ Err OutOfMemory → Parses (stream all) l a → Parses (stream all) l b → a ≡ b
 
 -- the same for an expression that is read from some place on
 abbrev pub SomeAnswer : Type 0
-SomeAnswer = (all : List Terminal) (l : Limits) (outer : Option ℕ) (i : ℕ) → (r : Outcome (Value expr)) × (r ≢ Err OutOfMemory) × Answers (stream all) expr expression outer i l r
+SomeAnswer = (all : List PlacedTerminal) (l : Limits) (outer : Option ℕ) (i : ℕ) → (r : Outcome (Value expr)) × (r ≢ Err OutOfMemory) × Answers (stream all) expr expression outer i l r
 
 abbrev pub OneAnswer : Type 0
-OneAnswer = (all : List Terminal) (l : Limits) (outer : Option ℕ) (i : ℕ) (a b : Outcome (Value expr)) → a ≢ Err OutOfMemory → b ≢ Err OutOfMemory
+OneAnswer = (all : List PlacedTerminal) (l : Limits) (outer : Option ℕ) (i : ℕ) (a b : Outcome (Value expr)) → a ≢ Err OutOfMemory → b ≢ Err OutOfMemory
     → Answers (stream all) expr expression outer i l a → Answers (stream all) expr expression outer i l b → a ≡ b
 
 -- a list of tokens that opens a program opens it at each place on the way
 abbrev pub OpensOnTheWay : Type 0
-OpensOnTheWay = (all : List Terminal) (l : Limits) (j k : ℕ) → j ≤ k → Opens (stream all) program whole None 0 l k → Opens (stream all) program whole None 0 l j
+OpensOnTheWay = (all : List PlacedTerminal) (l : Limits) (j k : ℕ) → j ≤ k → Opens (stream all) program whole None 0 l k → Opens (stream all) program whole None 0 l j
 
 -- within larger limits more is spelled
 abbrev pub LargerLimitsSpellMore : Type 0
-LargerLimitsSpellMore = (all : List Terminal) (l m : Limits) (p : Value program) → l.levels ≤ m.levels → l.operators ≤ m.operators → SpellsProgram (stream all) l p → SpellsProgram (stream all) m p
+LargerLimitsSpellMore = (all : List PlacedTerminal) (l m : Limits) (p : Value program) → l.levels ≤ m.levels → l.operators ≤ m.operators → SpellsProgram (stream all) l p → SpellsProgram (stream all) m p
 
 -- the first token too deep stands before the stopper
 abbrev pub TooDeepBeforeStopper : Type 0
-TooDeepBeforeStopper = (all : List Terminal) (l : Limits) (m n : ℕ) → FirstTooDeep (stream all) program whole None 0 l m → Stopper (stream all) program whole None 0 n → m < n
+TooDeepBeforeStopper = (all : List PlacedTerminal) (l : Limits) (m n : ℕ) → FirstTooDeep (stream all) program whole None 0 l m → Stopper (stream all) program whole None 0 n → m < n
 
 -- tokens that spell a program within the limits are answered by it
 abbrev pub SpelledIsParsed : Type 0
-SpelledIsParsed = (all : List Terminal) (l : Limits) (p : Value program) → SpellsProgram (stream all) l p → Parses (stream all) l (Ok p)
+SpelledIsParsed = (all : List PlacedTerminal) (l : Limits) (p : Value program) → SpellsProgram (stream all) l p → Parses (stream all) l (Ok p)
 
 -- where a list opens a program, but not within the limits, some token is too deep, and the first of them is answered
 abbrev pub TooDeepIsTold : Type 0
-TooDeepIsTold = (all : List Terminal) (l : Limits) (k : ℕ) → OpensAtAll (stream all) program whole None 0 k → (Opens (stream all) program whole None 0 l k → ⊥) → (n : ℕ) × Parses (stream all) l (Err (Nest n))
+TooDeepIsTold = (all : List PlacedTerminal) (l : Limits) (k : ℕ) → OpensAtAll (stream all) program whole None 0 k → (Opens (stream all) program whole None 0 l k → ⊥) → (n : ℕ) × Parses (stream all) l (Err (Nest n))
 
 -- where there is a stopper, and the list before it opens a program within the limits, the stopper is answered
 abbrev pub StopperIsTold : Type 0
-StopperIsTold = (all : List Terminal) (l : Limits) (n : ℕ) → Stopper (stream all) program whole None 0 n → Opens (stream all) program whole None 0 l n → Parses (stream all) l (Err (Syntax n))
+StopperIsTold = (all : List PlacedTerminal) (l : Limits) (n : ℕ) → Stopper (stream all) program whole None 0 n → Opens (stream all) program whole None 0 l n → Parses (stream all) l (Err (Syntax n))

@@ -4,20 +4,20 @@ use Rattle.std.specs.Str.{IsUtf8}
 use Rattle.qt_outside.specs.Causes.{Texts, text_of}
 use Rattle.qt_tree.specs.declared.program.Program.{Program}
 use Rattle.qt_print.specs.Text.{canonical}
-use Rattle.qt_read.specs.Reading.{IsTextOfProgram, most_bytes, Spells}
-use Rattle.qt_round_trip.specs.Laws.{IsTextOf}
+use Rattle.qt_read.specs.Reading.{IsTextOfProgram, most_bytes, SpellsOnly}
+use Rattle.qt_round_trip.specs.Laws.{ReadsAs}
 use Rattle.qt_round_trip.proofs.Again.{round_trip, keeps_the_program as keeps}
 use Rattle.qt_host.specs.Said.{Answer, Said, Asks, other_words, refused_text, other_form, report_of, canonical_of, answered}
 use Rattle.qt_host.specs.Formatting.{FormatsAgain, KeepsTheProgram}
 
-is_text_of : (text : List ℕ) (file : ℕ) (p : Program) (is : IsTextOfProgram file text p) → IsTextOf text file is.tokens p
-unfolding Spells
+is_text_of : (text : List ℕ) (file : ℕ) (p : Program) (is : IsTextOfProgram file text p) → ReadsAs text file is.tokens p
+unfolding SpellsOnly
 is_text_of text file p is = record { given = is.has.given; spelled = is.spelled }
 
 -- the canonical text, if it is no longer than a text may be, is that of a program with the same canonical text
 again : (text : List ℕ) (file other : ℕ) (p : Program) → IsTextOfProgram file text p → IsUtf8 (canonical p) → length (canonical p) ≤ most_bytes
     → (q : Program) × IsTextOfProgram other (canonical p) q × (canonical q ≡ canonical p)
-unfolding Spells
+unfolding SpellsOnly
 again text file other p is utf8 within =
     let found = round_trip text file is.tokens p (is_text_of text file p is) other in
     (found.program, record { tokens = found.tokens; has = record { within = within; utf8 = utf8; given = found.given }; spelled = found.spelled }, found.text)

@@ -8,7 +8,7 @@ use Rattle.qt_read.specs.Reading.{IsTextOfProgram, IsRefused}
 use Rattle.qt_read.proofs.Outcomes.{one_outcome}
 use Rattle.qt_print.specs.Text.{canonical}
 use Rattle.qt_first.specs.declared.program.Program.{Program}
-use Rattle.qt_first.specs.Form.{IsTextOf}
+use Rattle.qt_first.specs.Form.{IsFirstFormText}
 use Rattle.qt_first.proofs.Programs.{one_text}
 use Rattle.qt_report.specs.declared.distribution.Chance.{Chance}
 use Rattle.qt_report.specs.Report.{report_text}
@@ -52,8 +52,8 @@ module _ (words : List (List ℕ)) (texts : Texts) where
       let reasons = (one_outcome name 0 (text_of texts name)).refusals first second bad (subst (λ n. IsRefused n 0 (text_of texts n) second) (sym names) too) in
       ap (λ x. refused 1 (refusal_line (name ∷ []) x)) reasons ∙ ap (λ n. refused 1 (refusal_line (n ∷ []) second)) names
 
-  same_text : {mode other name text : List ℕ} (p : Program) → Asks words mode name → Asks words other text → IsTextOf p (text_of texts text) → IsTextOf p (text_of texts name)
-  same_text p e f h = subst (λ n. IsTextOf p (text_of texts n)) (sym (one_name e f)) h
+  same_text : {mode other name text : List ℕ} (p : Program) → Asks words mode name → Asks words other text → IsFirstFormText p (text_of texts text) → IsFirstFormText p (text_of texts name)
+  same_text p e f h = subst (λ n. IsFirstFormText p (text_of texts n)) (sym (one_name e f)) h
 
   same_source : {mode other name text : List ℕ} (first second : Source) → Asks words mode name → Asks words other text → IsTextOfProgram 0 (text_of texts name) first → IsTextOfProgram 0 (text_of texts text) second → first ≡ second
   same_source {name = name} first second e f h g =

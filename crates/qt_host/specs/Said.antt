@@ -9,7 +9,7 @@ use Rattle.qt_read.specs.Lines.{refusal_line}
 use Rattle.qt_read.specs.Reading.{IsTextOfProgram, IsRefused}
 use Rattle.qt_print.specs.Text.{canonical}
 use Rattle.qt_first.specs.declared.program.Program.{Program}
-use Rattle.qt_first.specs.Form.{IsTextOf}
+use Rattle.qt_first.specs.Form.{IsFirstFormText}
 use Rattle.qt_report.specs.declared.distribution.Chance.{Chance}
 use Rattle.qt_report.specs.Report.{report_text}
 use Rattle.qt_run.specs.Tree.{leaves_of}
@@ -46,10 +46,10 @@ pub data Said (words : List (List ℕ)) (texts : Texts) : Answer → Type 0 wher
       → IsRefused name 0 (text_of texts name) refusal → Said words texts (refused 1 (refusal_line (name ∷ []) refusal))
   -- the text is that of a program, but of none of the first form
   other_form : (name : List ℕ) (source : Source) → Asks words (codes "run") name
-      → IsTextOfProgram 0 (text_of texts name) source → ((p : Program) → ¬ IsTextOf p (text_of texts name)) → Said words texts (refused 1 (form_line name))
+      → IsTextOfProgram 0 (text_of texts name) source → ((p : Program) → ¬ IsFirstFormText p (text_of texts name)) → Said words texts (refused 1 (form_line name))
   -- the text is that of a program of the first form, and these chances are its distribution
   report_of : (name : List ℕ) (source : Source) (p : Program) (chances : List Chance) → Asks words (codes "run") name
-      → IsTextOfProgram 0 (text_of texts name) source → IsTextOf p (text_of texts name) → IsDistribution (leaves_of p) chances
+      → IsTextOfProgram 0 (text_of texts name) source → IsFirstFormText p (text_of texts name) → IsDistribution (leaves_of p) chances
       → Said words texts (answered (report_text (record { layout = layout_of p; chances = chances })))
   -- the text is that of a program, and this is its canonical text
   canonical_of : (name : List ℕ) (source : Source) → Asks words (codes "format") name

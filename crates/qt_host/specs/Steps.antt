@@ -6,7 +6,7 @@ use Rattle.qt_read.specs.Lines.{refusal_line}
 use Rattle.qt_read.specs.Reading.{IsTextOfProgram, IsRefused}
 use Rattle.qt_print.specs.Text.{canonical}
 use Rattle.qt_first.specs.declared.program.Program.{Program}
-use Rattle.qt_first.specs.Form.{IsTextOf}
+use Rattle.qt_first.specs.Form.{IsFirstFormText}
 use Rattle.qt_report.specs.declared.distribution.Chance.{Chance}
 use Rattle.qt_report.specs.Report.{report_text}
 use Rattle.qt_run.specs.Tree.{leaves_of}
@@ -28,7 +28,7 @@ IsNoMode word = (mode : Mode) → ¬ (word ≡ mode_word mode)
 -- the report of the program whose text it is
 abbrev pub IsReportOf : List ℕ → List ℕ → Type 0
 IsReportOf text report =
-    (p : Program) × (chances : List Chance) × IsTextOf p text × IsDistribution (leaves_of p) chances
+    (p : Program) × (chances : List Chance) × IsFirstFormText p text × IsDistribution (leaves_of p) chances
     × (report ≡ report_text (record { layout = layout_of p; chances = chances }))
 
 -- the answer to a mode for a text that is that of a program
@@ -45,7 +45,7 @@ HasNoSource name text _ = ⊥
 -- why a text has no answer: it is that of no program, or of none of the first form, or memory ran out
 abbrev pub HasNoAnswer : Mode → List ℕ → List ℕ → HostRefusal → Type 0
 HasNoAnswer mode name text (Text reason) = IsRefused name 0 text reason
-HasNoAnswer Run name text (Early of) = (of ≡ name) × ((source : Source) × IsTextOfProgram 0 text source) × ((p : Program) → ¬ IsTextOf p text)
+HasNoAnswer Run name text (Early of) = (of ≡ name) × ((source : Source) × IsTextOfProgram 0 text source) × ((p : Program) → ¬ IsFirstFormText p text)
 HasNoAnswer Format name text (Early of) = ⊥
 HasNoAnswer mode name text (Shelf of) = ⊥
 HasNoAnswer mode name text OutOfMemory = Unit {0}

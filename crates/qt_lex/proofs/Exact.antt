@@ -3,7 +3,7 @@ use Rattle.std.proofs.Common.{◌≡◌, ℕ, ◌+◌, ◌≤◌, ◌<◌, inl, 
 use Rattle.qt_lex.specs.declared.tokens.Kind.{Kind}
 use Rattle.qt_lex.specs.declared.tokens.Token.{Token}
 use Rattle.qt_lex.specs.Bytes.{is_blank, stands}
-use Rattle.qt_lex.specs.Tokens.{IsToken, Longest, FirstAt, IsLineEnd, IsGap, IsSolid, IsUnclosed, Lexes, stop, gap, token, Fails, open_comment, no_token, behind_gap, behind_token, token_of}
+use Rattle.qt_lex.specs.Tokens.{IsToken, LongestToken, FirstAt, IsLineEnd, IsGap, IsSolid, IsUnclosed, Lexes, stop, gap, token, Fails, open_comment, no_token, behind_gap, behind_token, token_of}
 use Rattle.qt_lex.proofs.Tables.{and_left, and_right, eqb_same, compare}
 use Rattle.qt_lex.proofs.Single.{kind_one}
 
@@ -60,7 +60,7 @@ module _ (b : ℕ → ℕ) where
   solid_no_open : (i : ℕ) → IsSolid b i → IsUnclosed b i → ⊥
   solid_no_open i x y = let u : stands b (47 ∷ 42 ∷ []) i ≡ false = x.no_comment in let v : stands b (47 ∷ 42 ∷ []) i ≡ true = y.opening in cc (u, v)
 
-  longest_one : (i j k : ℕ) (p q : Kind) → Longest b p i j → Longest b q i k → j ≡ k
+  longest_one : (i j k : ℕ) (p q : Kind) → LongestToken b p i j → LongestToken b q i k → j ≡ k
   longest_one i j k p q h g = let x : k ≤ j = h.longest q k g.token in let y : j ≤ k = g.longest p j h.token in omega (arith, x, y)
 
   pub tokens_one : (file end : ℕ) → b end ≡ 0 → (i : ℕ) (ps qs : List Token) → Lexes b file end i ps → Lexes b file end i qs → ps ≡ qs

@@ -6,7 +6,7 @@ pub mod Numbers
 pub mod Counts
 pub mod BitRuns
 pub mod Decimals
-pub mod Longest
+pub mod LongestToken
 pub mod Single
 pub mod Exact
 pub mod Spans

@@ -6,7 +6,7 @@ use Rattle.qt_lex.specs.declared.number.Radix.{Radix}
 use Rattle.qt_lex.specs.declared.number.Radix.TheVariants as radix
 use Rattle.qt_lex.specs.Bytes.{is_digit, stands, time_units, imaginary_units, IsOneOf}
 use Rattle.qt_lex.specs.Numbers.{is_digit_of, goes_on, IsDigits, IsWhole, IsDecimal, IsPlain}
-use Rattle.qt_lex.specs.Tokens.{IsToken, Longest, NoToken}
+use Rattle.qt_lex.specs.Tokens.{IsToken, LongestToken, NoToken}
 use Rattle.qt_lex.specs.Answers.{is_decimal_byte, IsPreferred, IsLongestDecimal, IsWithUnit}
 use Rattle.qt_lex.proofs.Tables.{and_left, and_right, or_left, or_right, or_cases, not_false, eqb_same, compare, head_of_one}
 use Rattle.qt_lex.proofs.Heads.{may_begin_number, number_no_quote, head_number, whole_head, other}
@@ -174,7 +174,7 @@ module _ (b : ℕ → ℕ) where
   unit_token i e k k' j p t (inr (inr u)) = subst (λ y. IsToken b y i j) (sym u.0) (subst (λ y. IsToken b k i y) (sym u.1) t)
 
   pub decimal_is : (i e : ℕ) (k : Kind) (j : ℕ) → may_begin_number (b i) ≡ true → IsDecimal b i e → IsLongestDecimal b i e → IsWithUnit b Decimal e k j → e ≤ j
-      → ((t : ℕ) → IsOneOf b time_units e t → t ≤ j) → ((t : ℕ) → IsOneOf b imaginary_units e t → t ≤ j) → Longest b k i j
+      → ((t : ℕ) → IsOneOf b time_units e t → t ≤ j) → ((t : ℕ) → IsOneOf b imaginary_units e t → t ≤ j) → LongestToken b k i j
   decimal_is i e k j n d long unit ahead times imaginaries = record {
     token = unit_token i e Decimal k j (inr d) d unit;
     longest = decimal_bounds i e j d long (record { ahead = ahead; times = times; imaginaries = imaginaries }) n;
@@ -184,7 +184,7 @@ module _ (b : ℕ → ℕ) where
       → IsWhole b r s i e → goes_on b r e ≡ false → IsPreferred b i r
       → ((IsDigits b r s (e - 1) × (b (e - 1) ≡ 100) × (b e ≡ 116)) → ⊥)
       → IsToken b k i e → IsWithUnit b k e k' j → e ≤ j
-      → ((t : ℕ) → IsOneOf b time_units e t → t ≤ j) → ((t : ℕ) → IsOneOf b imaginary_units e t → t ≤ j) → Longest b k' i j
+      → ((t : ℕ) → IsOneOf b time_units e t → t ≤ j) → ((t : ℕ) → IsOneOf b imaginary_units e t → t ≤ j) → LongestToken b k' i j
   whole_is r s i e k k' j n no_decimal w stop preferred no_cut token unit ahead times imaginaries = record {
     token = unit_token i e k k' j (inl (r, s, w)) token unit;
     longest = whole_bounds r s i e j (record { whole = w; stop = stop; preferred = preferred; no_decimal = no_decimal }) (record { ahead = ahead; times = times; imaginaries = imaginaries })
@@ -193,7 +193,7 @@ module _ (b : ℕ → ℕ) where
 
   pub cut_is : (r : Radix) (s i e : ℕ) → may_begin_number (b i) ≡ true → ((t : ℕ) → IsDecimal b i t → ⊥)
       → IsWhole b r s i e → goes_on b r e ≡ false → IsPreferred b i r
-      → IsDigits b r s (e - 1) × (b (e - 1) ≡ 100) × (b e ≡ 116) → Longest b Timing i (e + 1)
+      → IsDigits b r s (e - 1) × (b (e - 1) ≡ 100) × (b e ≡ 116) → LongestToken b Timing i (e + 1)
   cut_is r s i e n no_decimal w stop preferred (d, f, g) = record {
     token = (e - 1, inl (r, s, record { prefix = w.prefix; digits = d }), inl (unit, omega (arith, lt)));
     longest = whole_bounds r s i e (e + 1) (record { whole = w; stop = stop; preferred = preferred; no_decimal = no_decimal })

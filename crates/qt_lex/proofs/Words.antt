@@ -3,7 +3,7 @@ use Rattle.std.proofs.Common.{◌≡◌, ℕ, ◌+◌, ◌-◌, ◌≤◌, ◌<�
 use Rattle.qt_lex.specs.declared.tokens.Kind.{Kind}
 use Rattle.qt_lex.specs.declared.tokens.Kind.TheVariants.{Name, Reserved, Integer, Wide, Decimal, Timing, Imaginary, Text, Hardware, Hash, Symbol, Constant, Euler, End}
 use Rattle.qt_lex.specs.Bytes.{is_digit, is_letter, is_name_start, is_name_byte, is_quote, reserved_words, constants, euler_signs, symbols, IsOneOf, longest_in, EachFrom}
-use Rattle.qt_lex.specs.Tokens.{IsText, is_wide_text, IsToken, Longest, NoToken}
+use Rattle.qt_lex.specs.Tokens.{IsText, is_wide_text, IsToken, LongestToken, NoToken}
 use Rattle.qt_lex.proofs.Tables.{or_cases, or_no_left, eqb_same, compare, head_of_one, word_of_one, longest_stands, longest_bounds, run_ends}
 use Rattle.qt_lex.proofs.Heads.{may_begin_number, quote_no_whole, head, head_word, head_quote, whole_head, decimal_head, plain_head, other}
 
@@ -14,20 +14,20 @@ module _ (b : ℕ → ℕ) where
   word_bounds i e lt s stop Constant j h = run_ends b is_name_byte (i + 1) e j (omega (arith, lt)) stop (word_of_one b constants i j refl s h)
   word_bounds i e lt s stop k j h = absurd (other b k 0 i j refl (head_word (b i) s) h)
 
-  pub reserved_is : (i e n : ℕ) → i < e → is_name_start (b i) ≡ true → is_name_byte (b e) ≡ false → n ≡ longest_in b reserved_words i → n ≡ e - i → Longest b Reserved i e
+  pub reserved_is : (i e n : ℕ) → i < e → is_name_start (b i) ≡ true → is_name_byte (b e) ≡ false → n ≡ longest_in b reserved_words i → n ≡ e - i → LongestToken b Reserved i e
   reserved_is i e n lt s stop f g = record {
     token = longest_stands b reserved_words i n e f (omega (arith, lt, g)) (omega (arith, lt, g));
     longest = word_bounds i e lt s stop;
   }
 
-  pub constant_is : (i e n : ℕ) → i < e → is_name_start (b i) ≡ true → is_name_byte (b e) ≡ false → n ≡ longest_in b constants i → n ≡ e - i → Longest b Constant i e
+  pub constant_is : (i e n : ℕ) → i < e → is_name_start (b i) ≡ true → is_name_byte (b e) ≡ false → n ≡ longest_in b constants i → n ≡ e - i → LongestToken b Constant i e
   constant_is i e n lt s stop f g = record {
     token = longest_stands b constants i n e f (omega (arith, lt, g)) (omega (arith, lt, g));
     longest = word_bounds i e lt s stop;
   }
 
   pub name_is : (i e n m : ℕ) → i < e → is_name_start (b i) ≡ true → EachFrom b is_name_byte (i + 1) e → is_name_byte (b e) ≡ false
-      → n ≡ longest_in b reserved_words i → (n ≡ e - i → ⊥) → m ≡ longest_in b constants i → (m ≡ e - i → ⊥) → Longest b Name i e
+      → n ≡ longest_in b reserved_words i → (n ≡ e - i → ⊥) → m ≡ longest_in b constants i → (m ≡ e - i → ⊥) → LongestToken b Name i e
   name_is i e n m lt s all stop f g f' g' = record {
     token = (record { some = lt; first = s; others = all }, no_reserved, no_constant);
     longest = word_bounds i e lt s stop;
@@ -64,10 +64,10 @@ module _ (b : ℕ → ℕ) where
   text_bounds i j t Wide j' (inr h) = let e : j' ≡ j = text_one i j j' t h.0 in omega (arith, e)
   text_bounds i j t k j' h = absurd (other b k 2 i j' refl (head_quote (b i) t.quote) h)
 
-  pub text_is : (i j : ℕ) → IsText b i j → is_wide_text b i j ≡ false → Longest b Text i j
+  pub text_is : (i j : ℕ) → IsText b i j → is_wide_text b i j ≡ false → LongestToken b Text i j
   text_is i j t short = record { token = (t, short); longest = text_bounds i j t }
 
-  pub wide_text_is : (i j : ℕ) → IsText b i j → is_wide_text b i j ≡ true → Longest b Wide i j
+  pub wide_text_is : (i j : ℕ) → IsText b i j → is_wide_text b i j ≡ true → LongestToken b Wide i j
   wide_text_is i j t long = record { token = inr (t, long); longest = text_bounds i j t }
 
   pub no_text : (i : ℕ) → is_quote (b i) ≡ true → ((j : ℕ) → IsText b i j → ⊥) → NoToken b i
@@ -76,7 +76,7 @@ module _ (b : ℕ → ℕ) where
   no_text i q none Wide j (inr h) = none j h.0
   no_text i q none k j h = other b k 2 i j refl (head_quote (b i) q) h
 
-  pub hardware_is : (i e : ℕ) → b i ≡ 36 → i + 1 < e → EachFrom b is_digit (i + 1) e → is_digit (b e) ≡ false → Longest b Hardware i e
+  pub hardware_is : (i e : ℕ) → b i ≡ 36 → i + 1 < e → EachFrom b is_digit (i + 1) e → is_digit (b e) ≡ false → LongestToken b Hardware i e
   hardware_is i e f lt all stop = record { token = record { some = lt; first = f; others = all }; longest = bound }
     where
       bound : (k : Kind) (j' : ℕ) → IsToken b k i j' → j' ≤ e
@@ -87,7 +87,7 @@ module _ (b : ℕ → ℕ) where
   no_hardware i f stop Hardware j h = let g : is_digit (b (i + 1)) ≡ true = h.others (i + 1) (omega arith) h.some in cc (g, stop)
   no_hardware i f stop k j h = other b k 3 i j refl (ap head f) h
 
-  pub hash_is : (i e : ℕ) → b i ≡ 35 → i + 1 < e → EachFrom b is_letter (i + 1) e → is_letter (b e) ≡ false → Longest b Hash i e
+  pub hash_is : (i e : ℕ) → b i ≡ 35 → i + 1 < e → EachFrom b is_letter (i + 1) e → is_letter (b e) ≡ false → LongestToken b Hash i e
   hash_is i e f lt all stop = record { token = record { some = lt; first = f; others = all }; longest = bound }
     where
       bound : (k : Kind) (j' : ℕ) → IsToken b k i j' → j' ≤ e
@@ -98,7 +98,7 @@ module _ (b : ℕ → ℕ) where
   no_hash i f stop Hash j h = let g : is_letter (b (i + 1)) ≡ true = h.others (i + 1) (omega arith) h.some in cc (g, stop)
   no_hash i f stop k j h = other b k 4 i j refl (ap head f) h
 
-  pub symbol_is : (i n : ℕ) → n ≡ longest_in b symbols i → 0 < n → Longest b Symbol i (i + n)
+  pub symbol_is : (i n : ℕ) → n ≡ longest_in b symbols i → 0 < n → LongestToken b Symbol i (i + n)
   symbol_is i n e lt = record { token = token; longest = bound }
     where
       token : IsOneOf b symbols i (i + n)
@@ -111,7 +111,7 @@ module _ (b : ℕ → ℕ) where
       bound Symbol j' h = longest_bounds b symbols i n (i + n) j' e refl h
       bound k j' h = absurd (other b k 5 i j' refl h5 h)
 
-  pub greek_is : (i n : ℕ) → is_name_start (b i) ≡ false → n ≡ longest_in b constants i → 0 < n → Longest b Constant i (i + n)
+  pub greek_is : (i n : ℕ) → is_name_start (b i) ≡ false → n ≡ longest_in b constants i → 0 < n → LongestToken b Constant i (i + n)
   greek_is i n plain e lt = record { token = token; longest = bound }
     where
       token : IsOneOf b constants i (i + n)
@@ -127,7 +127,7 @@ module _ (b : ℕ → ℕ) where
       bound Constant j' h = longest_bounds b constants i n (i + n) j' e refl h
       bound k j' h = absurd (other b k 6 i j' refl h6 h)
 
-  pub euler_is : (i n : ℕ) → n ≡ longest_in b euler_signs i → 0 < n → Longest b Euler i (i + n)
+  pub euler_is : (i n : ℕ) → n ≡ longest_in b euler_signs i → 0 < n → LongestToken b Euler i (i + n)
   euler_is i n e lt = record { token = token; longest = bound }
     where
       token : IsOneOf b euler_signs i (i + n)

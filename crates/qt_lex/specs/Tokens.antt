@@ -51,7 +51,7 @@ module _ (b : ℕ → ℕ) where
   IsToken End i j = ⊥
 
   -- it is a token, and none of any kind that begins there is longer
-  pub record Longest (k : Kind) (i j : ℕ) : Type 0 where
+  pub record LongestToken (k : Kind) (i j : ℕ) : Type 0 where
     pub token : IsToken k i j
     pub longest : (k' : Kind) (j' : ℕ) → IsToken k' i j' → j' ≤ j
 
@@ -109,14 +109,14 @@ module _ (b : ℕ → ℕ) where
   pub data Lexes (file end : ℕ) : ℕ → List Token → Type 0 where
     stop : {i : ℕ} → end ≤ i → Lexes file end i (token_of file End i i ∷ [])
     gap : {i : ℕ} {rest : List Token} (j : ℕ) → i < end → IsGap end i j → Lexes file end j rest → Lexes file end i rest
-    token : {i : ℕ} {rest : List Token} (k : Kind) (j : ℕ) → i < end → IsSolid i → Longest k i j → Lexes file end j rest → Lexes file end i (token_of file k i j ∷ rest)
+    token : {i : ℕ} {rest : List Token} (k : Kind) (j : ℕ) → i < end → IsSolid i → LongestToken k i j → Lexes file end j rest → Lexes file end i (token_of file k i j ∷ rest)
 
   -- from i on, p is the first place where a comment begins that isn't closed, or where no token begins
   pub data Fails (end : ℕ) : ℕ → ℕ → Type 0 where
     open_comment : {i : ℕ} → i < end → IsUnclosed i → Fails end i i
     no_token : {i : ℕ} → i < end → IsSolid i → NoToken i → Fails end i i
     behind_gap : {i p : ℕ} (j : ℕ) → i < end → IsGap end i j → Fails end j p → Fails end i p
-    behind_token : {i p : ℕ} (k : Kind) (j : ℕ) → i < end → IsSolid i → Longest k i j → Fails end j p → Fails end i p
+    behind_token : {i p : ℕ} (k : Kind) (j : ℕ) → i < end → IsSolid i → LongestToken k i j → Fails end j p → Fails end i p
 
 -- the text gives these tokens
 abbrev pub GivesTokens : List ℕ → ℕ → List Token → Type 0

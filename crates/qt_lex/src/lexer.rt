@@ -4,7 +4,7 @@ ghost use Rattle.std.specs.Prelude.{◌≡◌, ◌+◌, ◌-◌, ◌||◌, eqb, 
 ghost use Rattle.qt_lex.specs.Bytes as bytes;
 ghost use Rattle.qt_lex.specs.Bytes.{byte};
 ghost use Rattle.qt_lex.specs.Tokens as spec;
-ghost use Rattle.qt_lex.specs.Tokens.{Longest, NoToken, GivesTokens, FailsAt, AreWithin, EndsAt};
+ghost use Rattle.qt_lex.specs.Tokens.{LongestToken, NoToken, GivesTokens, FailsAt, AreWithin, EndsAt};
 ghost use Rattle.qt_lex.specs.Answers.{GapIs};
 ghost use Rattle.qt_tree.specs.declared.place.Place.{Place};
 ghost use Rattle.qt_lex.specs.declared.tokens.Kind.{Kind};
@@ -25,7 +25,7 @@ use std::alloc::Global;
 fn word_at(text: &[u8], at: usize) -> (Kind, usize)
     requires word { bytes.is_name_start (byte text.now at) ≡ true }
     requires within { at < length text.now }
-    ensures token { Longest (byte text.now) result.0 at result.1 }
+    ensures token { LongestToken (byte text.now) result.0 at result.1 }
     ensures ahead { at < result.1 }
     ensures inside { result.1 ≤ length text.now }
 {
@@ -67,7 +67,7 @@ fn text_end(text: &[u8], at: usize) -> Option<usize>
 fn quoted_at(text: &[u8], at: usize) -> Option<(Kind, usize)>
     requires quote { bytes.is_quote (byte text.now at) ≡ true }
     requires within { at < length text.now }
-    ensures some { IfSome result (λ found. Longest (byte text.now) found.0 at found.1) }
+    ensures some { IfSome result (λ found. LongestToken (byte text.now) found.0 at found.1) }
     ensures ahead { IfSome result (λ found. at < found.1) }
     ensures inside { IfSome result (λ found. found.1 ≤ length text.now) }
     ensures none { IfNone result (NoToken (byte text.now) at) }
@@ -86,7 +86,7 @@ fn quoted_at(text: &[u8], at: usize) -> Option<(Kind, usize)>
 fn hardware_at(text: &[u8], at: usize) -> Option<(Kind, usize)>
     requires sign { byte text.now at ≡ 36 }
     requires within { at < length text.now }
-    ensures some { IfSome result (λ found. Longest (byte text.now) found.0 at found.1) }
+    ensures some { IfSome result (λ found. LongestToken (byte text.now) found.0 at found.1) }
     ensures ahead { IfSome result (λ found. at < found.1) }
     ensures inside { IfSome result (λ found. found.1 ≤ length text.now) }
     ensures none { IfNone result (NoToken (byte text.now) at) }
@@ -102,7 +102,7 @@ fn hardware_at(text: &[u8], at: usize) -> Option<(Kind, usize)>
 fn hash_at(text: &[u8], at: usize) -> Option<(Kind, usize)>
     requires sign { byte text.now at ≡ 35 }
     requires within { at < length text.now }
-    ensures some { IfSome result (λ found. Longest (byte text.now) found.0 at found.1) }
+    ensures some { IfSome result (λ found. LongestToken (byte text.now) found.0 at found.1) }
     ensures ahead { IfSome result (λ found. at < found.1) }
     ensures inside { IfSome result (λ found. found.1 ≤ length text.now) }
     ensures none { IfNone result (NoToken (byte text.now) at) }
@@ -121,7 +121,7 @@ fn sign_at(text: &[u8], at: usize) -> Option<(Kind, usize)>
     requires no_quote { bytes.is_quote (byte text.now at) ≡ false }
     requires no_mark { (eqb (byte text.now at) 36 || eqb (byte text.now at) 35) ≡ false }
     requires within { at < length text.now }
-    ensures some { IfSome result (λ found. Longest (byte text.now) found.0 at found.1) }
+    ensures some { IfSome result (λ found. LongestToken (byte text.now) found.0 at found.1) }
     ensures ahead { IfSome result (λ found. at < found.1) }
     ensures inside { IfSome result (λ found. found.1 ≤ length text.now) }
     ensures none { IfNone result (NoToken (byte text.now) at) }
@@ -144,7 +144,7 @@ fn sign_at(text: &[u8], at: usize) -> Option<(Kind, usize)>
 /// The longest token at a place, by its kind and its end.
 fn token_at(text: &[u8], at: usize) -> Option<(Kind, usize)>
     requires { at < length text.now }
-    ensures some { IfSome result (λ found. Longest (byte text.now) found.0 at found.1) }
+    ensures some { IfSome result (λ found. LongestToken (byte text.now) found.0 at found.1) }
     ensures ahead { IfSome result (λ found. at < found.1) }
     ensures inside { IfSome result (λ found. found.1 ≤ length text.now) }
     ensures none { IfNone result (NoToken (byte text.now) at) }

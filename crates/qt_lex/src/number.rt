@@ -5,7 +5,7 @@ ghost use Rattle.qt_lex.specs.declared.number.Radix.TheVariants.{Decimal, Hexade
 ghost use Rattle.qt_lex.specs.Bytes as bytes;
 ghost use Rattle.qt_lex.specs.Bytes.{byte};
 ghost use Rattle.qt_lex.specs.Numbers as spec;
-ghost use Rattle.qt_lex.specs.Tokens.{Longest, NoToken};
+ghost use Rattle.qt_lex.specs.Tokens.{LongestToken, NoToken};
 ghost use Rattle.qt_lex.specs.Answers.{prefix_of, is_decimal_byte, IsPreferred, IsLongestExponent, IsLongestDecimal, IsWithUnit};
 
 use crate::scan::{IMAGINARY_UNITS, TIME_UNITS, byte_at, digits_end, longest_in};
@@ -263,7 +263,7 @@ fn is_cut_by_unit(text: &[u8], whole: Whole) -> bool
 pub fn number_at(text: &[u8], at: usize) -> Option<(Kind, usize)>
     requires number { (bytes.is_digit (byte text.now at) || eqb (byte text.now at) 46) ≡ true }
     requires within { at < length text.now }
-    ensures some { IfSome result (λ found. Longest (byte text.now) found.0 at found.1) }
+    ensures some { IfSome result (λ found. LongestToken (byte text.now) found.0 at found.1) }
     ensures ahead { IfSome result (λ found. at < found.1) }
     ensures inside { IfSome result (λ found. found.1 ≤ length text.now) }
     ensures none { IfNone result (NoToken (byte text.now) at) }

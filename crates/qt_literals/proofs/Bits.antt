@@ -12,9 +12,9 @@ use Rattle.qt_lex.specs.Bits.{are_bits, digit_count, is_bit_string, is_long_bit_
 use Rattle.qt_lex.specs.Tokens.{IsToken, is_wide_text}
 use Rattle.qt_lex.proofs.Tables.{or_left}
 use Rattle.qt_lex.proofs.BitRuns.{bits_from_digits}
-use Rattle.qt_words.specs.Literals.{is_bit_text, bits_of, bit_count}
-use Rattle.qt_words.specs.Terminals.{Terminal}
-use Rattle.qt_words.proofs.Numbers.{few_digits, bits_small}
+use Rattle.qt_terminals.specs.Literals.{is_bit_text, bits_of, bit_count}
+use Rattle.qt_terminals.specs.Terminals.{PlacedTerminal}
+use Rattle.qt_terminals.proofs.Numbers.{few_digits, bits_small}
 use Rattle.qt_print.specs.Literals.{binary_digits, bit_text}
 use Rattle.qt_wording.specs.Faithful.{IsBitsAgain}
 use Rattle.qt_literals.proofs.Quotes.{length_quoted, inner, is_text}
@@ -154,7 +154,7 @@ few_bits s = at_test (is_bit_text s) refl
     at_test false e = (omega arith, omega arith)
 
 -- a bit string keeps its number and its count
-pub bits_again : (t : Terminal) → IsToken (byte t.spelling) Text 0 (length t.spelling) → IsBitsAgain t
+pub bits_again : (t : PlacedTerminal) → IsToken (byte t.spelling) Text 0 (length t.spelling) → IsBitsAgain t
 bits_again t h =
     let s = t.spelling in
     let (few, fewer) = few_bits s in

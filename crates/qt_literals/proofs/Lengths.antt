@@ -7,8 +7,8 @@ use Rattle.qt_lex.specs.declared.tokens.Token.{Token}
 use Rattle.qt_lex.specs.Bytes.{byte}
 use Rattle.qt_lex.specs.Tokens.{IsGap, Lexes, stop, gap, token, token_of, GivesTokens}
 use Rattle.qt_lex.proofs.Spans.{gap_within, token_within, token_some, nothing_behind}
-use Rattle.qt_words.specs.Literals.{is_boundary, cut}
-use Rattle.qt_words.specs.Terminals.{Terminal, spelling_of, word_at, behind, terminals_behind, terminals, stream}
+use Rattle.qt_terminals.specs.Literals.{is_boundary, cut}
+use Rattle.qt_terminals.specs.Terminals.{PlacedTerminal, spelling_of, terminal_at, behind, terminals_behind, terminals, stream}
 use Rattle.qt_wording.specs.Faithful.{total_length}
 
 length_slice : (text : List ℕ) (i j : ℕ) → length (slice_range text i j) ≤ j - i
@@ -26,7 +26,7 @@ length_spelling : (text : List ℕ) (t : Token) → length (spelling_of text t) 
 unfolding spelling_of
 length_spelling text t = length_cut text t.start t.end
 
-total_more : (ts : ℕ → Terminal) (n : ℕ) → total_length ts (suc n) ≡ length ((ts 0).spelling) + total_length (λ k. ts (suc k)) n
+total_more : (ts : ℕ → PlacedTerminal) (n : ℕ) → total_length ts (suc n) ≡ length ((ts 0).spelling) + total_length (λ k. ts (suc k)) n
 total_more ts zero = omega arith
 total_more ts (suc n) = omega (arith, total_more ts n)
 
@@ -53,7 +53,7 @@ total_behind text file i ts le (token {rest = rest} k j lt s l h) m (suc n) =
     let t = token_of (byte text) file k i j in
     let x : i < j = token_some (byte text) k i j l.token in
     let y : j ≤ length text = token_within (byte text) k (length text) i j (nothing_behind text) lt l.token in
-    let z : j + total_length (stream (terminals_behind text (behind m (word_at text t)) rest)) n ≤ length text = total_behind text file j rest y h (behind m (word_at text t)) n in
+    let z : j + total_length (stream (terminals_behind text (behind m (terminal_at text t)) rest)) n ≤ length text = total_behind text file j rest y h (behind m (terminal_at text t)) n in
     omega (arith, total_more (stream (terminals_behind text m (t ∷ rest))) n, length_spelling text t)
 
 pub within_the_text : (text : List ℕ) (file : ℕ) (tokens : List Token) → GivesTokens text file tokens

@@ -10,8 +10,8 @@ use Rattle.qt_lex.specs.Bytes.{byte, is_digit, EachFrom}
 use Rattle.qt_lex.specs.Numbers.{digit_value, number_of, IsWhole}
 use Rattle.qt_lex.specs.Tokens.{IsToken}
 use Rattle.qt_lex.proofs.Tables.{or_left, compare2}
-use Rattle.qt_words.specs.Literals.{integer_of}
-use Rattle.qt_words.proofs.Integers.{integer_slice}
+use Rattle.qt_terminals.specs.Literals.{integer_of}
+use Rattle.qt_terminals.proofs.Integers.{integer_slice}
 use Rattle.qt_wording.specs.Faithful.{AreNumbersAgain}
 use Rattle.qt_literals.proofs.Shifts.{number_same}
 

@@ -14,9 +14,9 @@ use Rattle.qt_lex.specs.Numbers.{is_digit_of}
 use Rattle.qt_lex.specs.Bits.{is_long_bit_string}
 use Rattle.qt_lex.specs.Tokens.{IsText, IsToken, is_wide_text}
 use Rattle.qt_lex.proofs.Tables.{and_left, and_right, compare2, or_cases, or_no_left, or_no_right, eqb_same, not_true}
-use Rattle.qt_words.specs.Literals.{is_boundary, cut, inside_quotes}
-use Rattle.qt_words.specs.Terminals.{Terminal}
-use Rattle.qt_print.specs.Words.{quotation}
+use Rattle.qt_terminals.specs.Literals.{is_boundary, cut, inside_quotes}
+use Rattle.qt_terminals.specs.Terminals.{PlacedTerminal}
+use Rattle.qt_print.specs.Lexemes.{quotation}
 use Rattle.qt_print.specs.Literals.{in_quotes, holds_double_quote, quoted}
 use Rattle.qt_wording.specs.Spelling.{IsSpelled}
 use Rattle.qt_wording.specs.Faithful.{IsQuotedAgain}
@@ -158,7 +158,7 @@ quoted_as s x text h short =
     ((is_text q x fits.0 fits.1, not_wide s x q text h fits.0 short), inside_again q x fits.0 h.start, omega (arith, length_quoted q x, h.short))
 
 -- a text in quotes keeps its inside
-pub quoted_again : (t : Terminal) → IsToken (byte t.spelling) Text 0 (length t.spelling) → IsQuotedAgain t
+pub quoted_again : (t : PlacedTerminal) → IsToken (byte t.spelling) Text 0 (length t.spelling) → IsQuotedAgain t
 quoted_again t h =
     let s = t.spelling in
     let (spelled, inside, short) = quoted_as s (inside_quotes s) h.0 (is_inside s (omega (arith, h.0.some))) h.1 in

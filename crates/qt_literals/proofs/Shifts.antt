@@ -79,15 +79,15 @@ module _ (b c : ℕ → ℕ) (i n : ℕ) (same : (k : ℕ) → k < n → c k ≡
   one_of_back (x ∷ xs) (inl h) = let e : length x ≡ n = omega (arith, h.1) in inl (ap (stands b x) (omega arith) ∙ sym (stands_same x 0 (omega arith)) ∙ h.0, omega arith)
   one_of_back (x ∷ xs) (inr h) = inr (one_of_back xs h)
 
-  word_moved : IsWord b i (i + n) → IsWord c 0 n
-  word_moved h = record {
+  lexeme_moved : IsWord b i (i + n) → IsWord c 0 n
+  lexeme_moved h = record {
     some = omega (arith, h.some);
     first = ap is_name_start (first (omega (arith, h.some))) ∙ h.first;
     others = λ k from below. ap is_name_byte (same k below) ∙ h.others (i + k) (omega arith) (omega arith);
   }
 
   pub name_moved : IsToken b Name i (i + n) → IsToken c Name 0 n
-  name_moved h = (word_moved h.0, λ t. h.1 (one_of_back reserved_words t), λ t. h.2 (one_of_back constants t))
+  name_moved h = (lexeme_moved h.0, λ t. h.1 (one_of_back reserved_words t), λ t. h.2 (one_of_back constants t))
 
   pointed_moved : (p j : ℕ) → j ≤ n → IsPointed b (i + p) i (i + j) → IsPointed c p 0 j
   pointed_moved p j le h = record {

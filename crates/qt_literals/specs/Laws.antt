@@ -2,7 +2,7 @@
 use Rattle.std.specs.Prelude.{ℕ, ◌≤◌, List, length}
 use Rattle.qt_lex.specs.declared.tokens.Token.{Token}
 use Rattle.qt_lex.specs.Tokens.{GivesTokens}
-use Rattle.qt_words.specs.Terminals.{terminals, stream}
+use Rattle.qt_terminals.specs.Terminals.{terminals, stream}
 use Rattle.qt_wording.specs.Faithful.{IsFaithful, AreNumbersAgain, total_length}
 
 -- each token of a text is kept by printing

@@ -7,12 +7,12 @@ use Rattle.qt_tree.specs.declared.program.ListItem.{ListItem}
 use Rattle.qt_tree.specs.declared.program.GateStatement.{GateStatement}
 use Rattle.qt_tree.specs.declared.program.Parameter.{Parameter}
 use Rattle.qt_tree.specs.declared.program.Item.{Item}
-use Rattle.qt_words.specs.declared.word.Word.{Word}
-use Rattle.qt_words.specs.declared.word.Word.TheVariants as w
-use Rattle.qt_words.specs.Words.{code}
-use Rattle.qt_words.specs.Terminals.{Terminal, stream}
+use Rattle.qt_terminals.specs.declared.terminal.Terminal.{Terminal}
+use Rattle.qt_terminals.specs.declared.terminal.Terminal.TheVariants as w
+use Rattle.qt_terminals.specs.Alphabet.{code}
+use Rattle.qt_terminals.specs.Terminals.{PlacedTerminal, stream}
 use Rattle.qt_grammar.specs.Sorts.{Sort, Value, operand, modifier, statement, entry, gate_line, parameter, item}
-use Rattle.qt_grammar.specs.Form.{Form, member, word_at}
+use Rattle.qt_grammar.specs.Form.{Form, member, terminal_at}
 use Rattle.qt_grammar.specs.Lookahead.{first}
 use Rattle.qt_grammar.specs.Outcome.{Outcome, and_then}
 use Rattle.qt_grammar.specs.Language.{some, or_none, listed}
@@ -21,44 +21,44 @@ use Rattle.qt_expr.specs.Parser.{reading, rest_separated, rest_some}
 use Rattle.qt_expr.proofs.Loops.{separated_goes_on, some_goes_on}
 use Rattle.qt_parse.specs.Parser.{modifier_sign, read_operand, read_modifier_sign, read_statement, read_entry, read_gate_line, read_parameter, read_global, read_items}
 
-module _ (tokens : List Terminal) (levels : ℕ) where
-  pub operands_go_on : (k : Word) (n turn : ℕ) (all : List Operand) (at : ℕ) → turn < n → member (word_at (stream tokens) at) (code k ∷ []) ≡ true
+module _ (tokens : List PlacedTerminal) (levels : ℕ) where
+  pub operands_go_on : (k : Terminal) (n turn : ℕ) (all : List Operand) (at : ℕ) → turn < n → member (terminal_at (stream tokens) at) (code k ∷ []) ≡ true
       → rest_separated tokens {s = operand} k g.an_operand levels None (n - turn) all at ≡ and_then (read_operand tokens levels (at + 1)) (λ x m. rest_separated tokens {s = operand} k g.an_operand levels None (n - (turn + 1)) (all ++ x ∷ []) m)
   unfolding read_operand
   operands_go_on k n turn all at more e = separated_goes_on tokens {s = operand} g.an_operand levels None k n turn all at more e
 
-  pub modifiers_go_on : (n turn : ℕ) (all : List Modifier) (at : ℕ) → turn < n → member (word_at (stream tokens) at) (first {s = modifier} modifier_sign) ≡ true
+  pub modifiers_go_on : (n turn : ℕ) (all : List Modifier) (at : ℕ) → turn < n → member (terminal_at (stream tokens) at) (first {s = modifier} modifier_sign) ≡ true
       → rest_some tokens {s = modifier} modifier_sign levels None (n - turn) all at ≡ and_then (read_modifier_sign tokens levels at) (λ x m. rest_some tokens {s = modifier} modifier_sign levels None (n - (turn + 1)) (all ++ x ∷ []) m)
   unfolding read_modifier_sign
   modifiers_go_on n turn all at more e = some_goes_on tokens {s = modifier} modifier_sign levels None n turn all at more e
 
-  pub statements_go_on : (n turn : ℕ) (all : List Statement) (at : ℕ) → turn < n → member (word_at (stream tokens) at) (first {s = statement} g.a_statement) ≡ true
+  pub statements_go_on : (n turn : ℕ) (all : List Statement) (at : ℕ) → turn < n → member (terminal_at (stream tokens) at) (first {s = statement} g.a_statement) ≡ true
       → rest_some tokens {s = statement} g.a_statement levels None (n - turn) all at ≡ and_then (read_statement tokens levels at) (λ x m. rest_some tokens {s = statement} g.a_statement levels None (n - (turn + 1)) (all ++ x ∷ []) m)
   unfolding read_statement
   statements_go_on n turn all at more e = some_goes_on tokens {s = statement} g.a_statement levels None n turn all at more e
 
-  pub entries_go_on : (n turn : ℕ) (all : List ListItem) (at : ℕ) → turn < n → member (word_at (stream tokens) at) (code w.Comma ∷ []) ≡ true
+  pub entries_go_on : (n turn : ℕ) (all : List ListItem) (at : ℕ) → turn < n → member (terminal_at (stream tokens) at) (code w.Comma ∷ []) ≡ true
       → rest_separated tokens {s = entry} w.Comma g.entry_form levels None (n - turn) all at ≡ and_then (read_entry tokens levels (at + 1)) (λ x m. rest_separated tokens {s = entry} w.Comma g.entry_form levels None (n - (turn + 1)) (all ++ x ∷ []) m)
   unfolding read_entry
   entries_go_on n turn all at more e = separated_goes_on tokens {s = entry} g.entry_form levels None w.Comma n turn all at more e
 
-  pub gate_lines_go_on : (n turn : ℕ) (all : List GateStatement) (at : ℕ) → turn < n → member (word_at (stream tokens) at) (first {s = gate_line} g.a_gate_line) ≡ true
+  pub gate_lines_go_on : (n turn : ℕ) (all : List GateStatement) (at : ℕ) → turn < n → member (terminal_at (stream tokens) at) (first {s = gate_line} g.a_gate_line) ≡ true
       → rest_some tokens {s = gate_line} g.a_gate_line levels None (n - turn) all at ≡ and_then (read_gate_line tokens levels at) (λ x m. rest_some tokens {s = gate_line} g.a_gate_line levels None (n - (turn + 1)) (all ++ x ∷ []) m)
   unfolding read_gate_line
   gate_lines_go_on n turn all at more e = some_goes_on tokens {s = gate_line} g.a_gate_line levels None n turn all at more e
 
-  pub parameters_go_on : (n turn : ℕ) (all : List Parameter) (at : ℕ) → turn < n → member (word_at (stream tokens) at) (code w.Comma ∷ []) ≡ true
+  pub parameters_go_on : (n turn : ℕ) (all : List Parameter) (at : ℕ) → turn < n → member (terminal_at (stream tokens) at) (code w.Comma ∷ []) ≡ true
       → rest_separated tokens {s = parameter} w.Comma g.a_parameter levels None (n - turn) all at ≡ and_then (read_parameter tokens levels (at + 1)) (λ x m. rest_separated tokens {s = parameter} w.Comma g.a_parameter levels None (n - (turn + 1)) (all ++ x ∷ []) m)
   unfolding read_parameter
   parameters_go_on n turn all at more e = separated_goes_on tokens {s = parameter} g.a_parameter levels None w.Comma n turn all at more e
 
-  pub items_go_on : (n turn : ℕ) (all : List Item) (at : ℕ) → turn < n → member (word_at (stream tokens) at) (first {s = item} g.global) ≡ true
+  pub items_go_on : (n turn : ℕ) (all : List Item) (at : ℕ) → turn < n → member (terminal_at (stream tokens) at) (first {s = item} g.global) ≡ true
       → rest_some tokens {s = item} g.global levels None (n - turn) all at ≡ and_then (read_global tokens levels at) (λ x m. rest_some tokens {s = item} g.global levels None (n - (turn + 1)) (all ++ x ∷ []) m)
   unfolding read_global
   items_go_on n turn all at more e = some_goes_on tokens {s = item} g.global levels None n turn all at more e
 
 -- a list of any number of items
-any_of : (tokens : List Terminal) (levels : ℕ) {s : Sort} (f : Form s) (at : ℕ) → member (word_at (stream tokens) at) (first f) ≡ true
+any_of : (tokens : List PlacedTerminal) (levels : ℕ) {s : Sort} (f : Form s) (at : ℕ) → member (terminal_at (stream tokens) at) (first f) ≡ true
     → reading tokens levels (or_none {s = s} (some f)) None at ≡ and_then (reading tokens levels f None at) (λ x m. rest_some tokens f levels None (length tokens) (x ∷ []) m)
 unfolding rest_some
 any_of tokens levels {s} f at e = rw e (tidy (reading tokens levels f None at))
@@ -72,15 +72,15 @@ any_of tokens levels {s} f at e = rw e (tidy (reading tokens levels f None at))
     tidy (Ok z) = last_two (rest_some tokens f levels None (length tokens) (z.0 ∷ []) z.1)
     tidy (Err x) = refl
 
-none_of : (tokens : List Terminal) (levels : ℕ) {s : Sort} (f : Form s) (at : ℕ) → member (word_at (stream tokens) at) (first f) ≡ false
+none_of : (tokens : List PlacedTerminal) (levels : ℕ) {s : Sort} (f : Form s) (at : ℕ) → member (terminal_at (stream tokens) at) (first f) ≡ false
     → reading tokens levels (or_none {s = s} (some f)) None at ≡ Ok ([], at)
 none_of tokens levels f at e = rw e refl
 
-pub items_are : (tokens : List Terminal) (levels at : ℕ) → member (word_at (stream tokens) at) (first {s = item} g.global) ≡ true
+pub items_are : (tokens : List PlacedTerminal) (levels at : ℕ) → member (terminal_at (stream tokens) at) (first {s = item} g.global) ≡ true
     → read_items tokens levels at ≡ and_then (read_global tokens levels at) (λ x m. rest_some tokens {s = item} g.global levels None (length tokens) (x ∷ []) m)
 unfolding read_items read_global
 items_are tokens levels at e = any_of tokens levels {s = item} g.global at e
 
-pub items_are_none : (tokens : List Terminal) (levels at : ℕ) → member (word_at (stream tokens) at) (first {s = item} g.global) ≡ false → read_items tokens levels at ≡ Ok ([], at)
+pub items_are_none : (tokens : List PlacedTerminal) (levels at : ℕ) → member (terminal_at (stream tokens) at) (first {s = item} g.global) ≡ false → read_items tokens levels at ≡ Ok ([], at)
 unfolding read_items
 items_are_none tokens levels at e = none_of tokens levels {s = item} g.global at e

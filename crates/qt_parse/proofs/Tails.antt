@@ -11,22 +11,22 @@ use Rattle.qt_tree.specs.declared.statement.CalledGate.TheVariants as gate
 use Rattle.qt_tree.specs.declared.statement.Target.{Target}
 use Rattle.qt_tree.specs.declared.statement.StatementForm.{StatementForm}
 use Rattle.qt_tree.specs.declared.statement.StatementForm.TheVariants as s
-use Rattle.qt_words.specs.declared.word.Word.{Word}
-use Rattle.qt_words.specs.declared.word.Word.TheVariants as w
-use Rattle.qt_words.proofs.Codes.{code_same}
+use Rattle.qt_terminals.specs.declared.terminal.Terminal.{Terminal}
+use Rattle.qt_terminals.specs.declared.terminal.Terminal.TheVariants as w
+use Rattle.qt_terminals.proofs.Codes.{code_same}
 use Rattle.qt_lex.proofs.Tables.{eqb_same}
-use Rattle.qt_words.specs.Words.{code}
-use Rattle.qt_words.specs.Terminals.{Terminal, stream}
+use Rattle.qt_terminals.specs.Alphabet.{code}
+use Rattle.qt_terminals.specs.Terminals.{PlacedTerminal, stream}
 use Rattle.qt_grammar.specs.Sorts.{Sort, Value, expr, index, operand, item, form, optional, several, target_tail, statement_tail, item_tail}
 use Rattle.qt_grammar.specs.Sorts as sorts
-use Rattle.qt_grammar.specs.Form.{Form, as_tree, then_, maybe, member, word_at}
+use Rattle.qt_grammar.specs.Form.{Form, as_tree, then_, maybe, member, terminal_at}
 use Rattle.qt_grammar.specs.Lookahead.{first}
 use Rattle.qt_grammar.specs.declared.refusal.Refusal.TheVariants.{Syntax}
 use Rattle.qt_grammar.specs.Outcome.{Outcome, and_then}
 use Rattle.qt_grammar.specs.Language.{◌⊕◌}
 use Rattle.qt_grammar.specs.Language as g
-use Rattle.qt_expr.specs.Parser.{reading, read_sign, read_label, read_expression, read_all_indexes}
-use Rattle.qt_parse.specs.Parser.{applied, read_assigned, read_compound, read_statement_form, read_word_alone, read_behind_first_name, read_by_name, read_global, read_include, read_interface, read_qubit_item, read_register_item, read_array_item, read_gate_item, read_definition, read_statement_item, read_any_version, read_items, read_whole}
+use Rattle.qt_expr.specs.Parser.{reading, read_exactly, read_label, read_expression, read_all_indexes}
+use Rattle.qt_parse.specs.Parser.{applied, read_assigned, read_compound, read_statement_form, read_keyword_alone, read_behind_first_name, read_by_name, read_global, read_include, read_interface, read_qubit_item, read_register_item, read_array_item, read_gate_item, read_definition, read_statement_item, read_any_version, read_items, read_whole}
 
 -- ---- behind a name at the beginning of a statement
 
@@ -53,10 +53,10 @@ module _ {A B C : Type 0} where
   bracketed make brackets (Ok z) = refl
   bracketed make brackets (Err x) = refl
 
-pub by_name_is : (tokens : List Terminal) (levels at : ℕ) → read_by_name tokens levels at
-    ≡ and_then (read_label tokens at) (λ name m. and_then (read_behind_first_name tokens levels name m) (λ form i. and_then (read_sign tokens (code w.Semicolon) i) (λ c j. Ok (form, j))))
-unfolding read_by_name read_label read_behind_first_name read_sign
-by_name_is tokens levels at = named_and_ended (reading tokens levels g.a_label None at) (λ m. reading tokens levels g.behind_first_name None m) (λ i. reading tokens levels (g.sign w.Semicolon) None i)
+pub by_name_is : (tokens : List PlacedTerminal) (levels at : ℕ) → read_by_name tokens levels at
+    ≡ and_then (read_label tokens at) (λ name m. and_then (read_behind_first_name tokens levels name m) (λ form i. and_then (read_exactly tokens (code w.Semicolon) i) (λ c j. Ok (form, j))))
+unfolding read_by_name read_label read_behind_first_name read_exactly
+by_name_is tokens levels at = named_and_ended (reading tokens levels g.a_label None at) (λ m. reading tokens levels g.behind_first_name None m) (λ i. reading tokens levels (g.exactly w.Semicolon) None i)
 
 -- what may stand behind a name: brackets first, or something else
 abbrev indexed_tail : Form statement_tail
@@ -81,26 +81,26 @@ picks_first : {A B : Type 0} (x : A) (b : Bool) (p q : Outcome (A → B)) → b 
 picks_first x true p q e = refl
 picks_first x false p q e = cc e
 
-pub indexed_is : (tokens : List Terminal) (levels : ℕ) (name : List ℕ) (at : ℕ) → member (word_at (stream tokens) at) (code w.LeftBracket ∷ []) ≡ true
+pub indexed_is : (tokens : List PlacedTerminal) (levels : ℕ) (name : List ℕ) (at : ℕ) → member (terminal_at (stream tokens) at) (code w.LeftBracket ∷ []) ≡ true
     → read_behind_first_name tokens levels name at ≡ and_then (read_all_indexes tokens levels None at) (λ brackets m. read_assigned tokens levels (record { name = name; brackets = brackets }) m)
 unfolding read_behind_first_name read_all_indexes read_assigned
 indexed_is tokens levels name at e =
-    picks_first name (member (word_at (stream tokens) at) (code w.LeftBracket ∷ [])) (reading tokens {s = statement_tail} levels indexed_tail None at) (reading tokens {s = statement_tail} levels other_tails None at) e
+    picks_first name (member (terminal_at (stream tokens) at) (code w.LeftBracket ∷ [])) (reading tokens {s = statement_tail} levels indexed_tail None at) (reading tokens {s = statement_tail} levels other_tails None at) e
     ∙ indexed name (reading tokens levels g.all_indexes None at) (λ m. reading tokens levels g.behind_target None m)
 
 -- a compound assignment
-pub compound_is : (tokens : List Terminal) (levels : ℕ) (to : Target) (at : ℕ) → member (word_at (stream tokens) at) g.compounds ≡ true
-    → read_compound tokens levels to at ≡ and_then (read_expression tokens levels None (at + 1)) (λ x j. Ok (s.CompoundAssignment to (g.compound_op (stream tokens at).word) x, j))
+pub compound_is : (tokens : List PlacedTerminal) (levels : ℕ) (to : Target) (at : ℕ) → member (terminal_at (stream tokens) at) g.compounds ≡ true
+    → read_compound tokens levels to at ≡ and_then (read_expression tokens levels None (at + 1)) (λ x j. Ok (s.CompoundAssignment to (g.compound_op (stream tokens at).terminal) x, j))
 unfolding read_compound read_expression
-compound_is tokens levels to at e = made (member (word_at (stream tokens) at) g.compounds) e (reading tokens levels g.expression None)
+compound_is tokens levels to at e = made (member (terminal_at (stream tokens) at) g.compounds) e (reading tokens levels g.expression None)
   where
-    last : (out : Outcome Expr) → applied to (and_then {A = Expr} {B = Target → StatementForm} out (λ x j. Ok ((λ to. s.CompoundAssignment to (g.compound_op (stream tokens at).word) x), j))) ≡ and_then {A = Expr} {B = StatementForm} out (λ x j. Ok (s.CompoundAssignment to (g.compound_op (stream tokens at).word) x, j))
+    last : (out : Outcome Expr) → applied to (and_then {A = Expr} {B = Target → StatementForm} out (λ x j. Ok ((λ to. s.CompoundAssignment to (g.compound_op (stream tokens at).terminal) x), j))) ≡ and_then {A = Expr} {B = StatementForm} out (λ x j. Ok (s.CompoundAssignment to (g.compound_op (stream tokens at).terminal) x, j))
     last (Ok z) = refl
     last (Err x) = refl
 
     made : (b : Bool) → b ≡ true → (E : ℕ → Outcome Expr)
-        → applied to (and_then {A = Terminal} {B = Target → StatementForm} (if b then Ok (stream tokens at, at + 1) else Err (Syntax at)) (λ k m. and_then {A = Expr} {B = Target → StatementForm} (E m) (λ x j. Ok ((λ to. s.CompoundAssignment to (g.compound_op k.word) x), j))))
-        ≡ and_then {A = Expr} {B = StatementForm} (E (at + 1)) (λ x j. Ok (s.CompoundAssignment to (g.compound_op (stream tokens at).word) x, j))
+        → applied to (and_then {A = PlacedTerminal} {B = Target → StatementForm} (if b then Ok (stream tokens at, at + 1) else Err (Syntax at)) (λ k m. and_then {A = Expr} {B = Target → StatementForm} (E m) (λ x j. Ok ((λ to. s.CompoundAssignment to (g.compound_op k.terminal) x), j))))
+        ≡ and_then {A = Expr} {B = StatementForm} (E (at + 1)) (λ x j. Ok (s.CompoundAssignment to (g.compound_op (stream tokens at).terminal) x, j))
     made true e E = last (E (at + 1))
     made false e E = cc e
 
@@ -110,10 +110,10 @@ picks : {A B : Type 0} (x : A) (b : Bool) (p q : Outcome (A → B)) (r : Outcome
 picks x true p q r e = refl
 picks x false p q r e = e
 
-module _ (tokens : List Terminal) (levels at : ℕ) where
+module _ (tokens : List PlacedTerminal) (levels at : ℕ) where
   -- does a form begin here?
   abbrev begins : {s : Sort} → Form s → Bool
-  begins f = member (word_at (stream tokens) at) (first f)
+  begins f = member (terminal_at (stream tokens) at) (first f)
 
   pub global_is : read_global tokens levels at ≡ (
       if begins g.include then read_include tokens ((stream tokens at).place) at
@@ -131,22 +131,22 @@ module _ (tokens : List Terminal) (levels at : ℕ) where
 
 -- ---- a whole program
 
-with_items : (V : Outcome (Option Version)) (I : ℕ → Outcome (List Item)) (E : ℕ → Outcome Terminal) (v : Option Version) (i : ℕ) (items : List Item) (j : ℕ) (t : Terminal) (n : ℕ)
+with_items : (V : Outcome (Option Version)) (I : ℕ → Outcome (List Item)) (E : ℕ → Outcome PlacedTerminal) (v : Option Version) (i : ℕ) (items : List Item) (j : ℕ) (t : PlacedTerminal) (n : ℕ)
     → V ≡ Ok (v, i) → I i ≡ Ok (items, j) → E j ≡ Ok (t, n)
-    → and_then {A = Option Version × (List Item × Terminal)} {B = Program}
-    (and_then {A = Option Version} {B = Option Version × (List Item × Terminal)} V (λ x m. and_then {A = List Item × Terminal} {B = Option Version × (List Item × Terminal)}
-    (and_then {A = List Item} {B = List Item × Terminal} (I m) (λ xs k. and_then {A = Terminal} {B = List Item × Terminal} (E k) (λ y l. Ok ((xs, y), l)))) (λ y l. Ok ((x, y), l))))
+    → and_then {A = Option Version × (List Item × PlacedTerminal)} {B = Program}
+    (and_then {A = Option Version} {B = Option Version × (List Item × PlacedTerminal)} V (λ x m. and_then {A = List Item × PlacedTerminal} {B = Option Version × (List Item × PlacedTerminal)}
+    (and_then {A = List Item} {B = List Item × PlacedTerminal} (I m) (λ xs k. and_then {A = PlacedTerminal} {B = List Item × PlacedTerminal} (E k) (λ y l. Ok ((xs, y), l)))) (λ y l. Ok ((x, y), l))))
     (λ c l. Ok (record { version = c.0; items = c.1.0; end = c.1.1.place }, l))
     ≡ Ok (record { version = v; items = items; end = t.place }, n)
 with_items V I E v i items j t n a b c = rw (a, b, c) refl
 
-pub whole_is : (tokens : List Terminal) (version : Option Version) (i : ℕ) (items : List Item) (j : ℕ) → read_any_version tokens 0 ≡ Ok (version, i) → read_items tokens 64 i ≡ Ok (items, j)
-    → read_sign tokens (code w.End) j ≡ Ok (stream tokens j, j + 1) → read_whole tokens 64 0 ≡ Ok (record { version = version; items = items; end = (stream tokens j).place }, j + 1)
-unfolding read_any_version read_items read_sign read_whole
-whole_is tokens version i items j a b c = with_items (reading tokens 0 (maybe {s = sorts.version} g.version_form) None 0) (λ m. reading tokens 64 (g.or_none {s = item} (g.some {s = item} g.global)) None m) (λ m. reading tokens 0 (g.sign w.End) None m) version i items j (stream tokens j) (j + 1) a b c
+pub whole_is : (tokens : List PlacedTerminal) (version : Option Version) (i : ℕ) (items : List Item) (j : ℕ) → read_any_version tokens 0 ≡ Ok (version, i) → read_items tokens 64 i ≡ Ok (items, j)
+    → read_exactly tokens (code w.End) j ≡ Ok (stream tokens j, j + 1) → read_whole tokens 64 0 ≡ Ok (record { version = version; items = items; end = (stream tokens j).place }, j + 1)
+unfolding read_any_version read_items read_exactly read_whole
+whole_is tokens version i items j a b c = with_items (reading tokens 0 (maybe {s = sorts.version} g.version_form) None 0) (λ m. reading tokens 64 (g.or_none {s = item} (g.some {s = item} g.global)) None m) (λ m. reading tokens 0 (g.exactly w.End) None m) version i items j (stream tokens j) (j + 1) a b c
 
-pub the_end : (tokens : List Terminal) (at : ℕ) → member (word_at (stream tokens) at) (code w.End ∷ []) ≡ true → read_sign tokens (code w.End) at ≡ Ok (stream tokens at, at + 1)
-unfolding read_sign
+pub the_end : (tokens : List PlacedTerminal) (at : ℕ) → member (terminal_at (stream tokens) at) (code w.End ∷ []) ≡ true → read_exactly tokens (code w.End) at ≡ Ok (stream tokens at, at + 1)
+unfolding read_exactly
 the_end tokens at e = rw e refl
 
 -- ---- alternatives
@@ -168,23 +168,23 @@ in_neither n (x ∷ xs) ys e = by_test (eqb n x) (λ h. in_neither n xs ys h) e
     by_test true k h = absurd (cc h)
     by_test false k h = k h
 
--- a word that is none of some words
-differs : (a b : Word) → (a ≡ b → ⊥) → eqb (code a) (code b) ≡ false
+-- a terminal that is none of some terminals
+differs : (a b : Terminal) → (a ≡ b → ⊥) → eqb (code a) (code b) ≡ false
 differs a b h = by_test (eqb (code a) (code b)) (λ e. h (code_same a b (eqb_same (code a) (code b) e)))
   where
     by_test : (x : Bool) → (x ≡ true → ⊥) → x ≡ false
     by_test true k = absurd (k refl)
     by_test false k = refl
 
-abbrev pub DiffersFrom : Word → List Word → Type 0
+abbrev pub DiffersFrom : Terminal → List Terminal → Type 0
 DiffersFrom a [] = Unit {0}
 DiffersFrom a (b ∷ bs) = (a ≡ b → ⊥) × DiffersFrom a bs
 
-abbrev pub codes_of : List Word → List ℕ
+abbrev pub codes_of : List Terminal → List ℕ
 codes_of [] = []
 codes_of (b ∷ bs) = code b ∷ codes_of bs
 
-pub none_of : (a : Word) (bs : List Word) → DiffersFrom a bs → member (code a) (codes_of bs) ≡ false
+pub none_of : (a : Terminal) (bs : List Terminal) → DiffersFrom a bs → member (code a) (codes_of bs) ≡ false
 none_of a [] d = refl
 none_of a (b ∷ bs) d = either (eqb (code a) (code b)) (differs a b d.0) (none_of a bs d.1)
   where
@@ -197,25 +197,25 @@ skipped true x y e = cc e
 skipped false x y e = refl
 
 -- where none of the others begins, the last is read
-skips : (tokens : List Terminal) (levels at : ℕ) {s : Sort} (fs : List (Form s)) (last : Form s) → member (word_at (stream tokens) at) (firsts fs) ≡ false
+skips : (tokens : List PlacedTerminal) (levels at : ℕ) {s : Sort} (fs : List (Form s)) (last : Form s) → member (terminal_at (stream tokens) at) (firsts fs) ≡ false
     → reading tokens levels (or_last fs last) None at ≡ reading tokens levels last None at
 skips tokens levels at [] last e = refl
 skips tokens levels at (f ∷ fs) last e =
-    let apart = in_neither (word_at (stream tokens) at) (first f) (firsts fs) e in
-    skipped (member (word_at (stream tokens) at) (first f)) (reading tokens levels f None at) (reading tokens levels (or_last fs last) None at) apart.0
+    let apart = in_neither (terminal_at (stream tokens) at) (first f) (firsts fs) e in
+    skipped (member (terminal_at (stream tokens) at) (first f)) (reading tokens levels f None at) (reading tokens levels (or_last fs last) None at) apart.0
     ∙ skips tokens levels at fs last apart.1
 
 -- the statements but for `end`
 abbrev pub others : List (Form form)
 others = g.declaration ∷ g.bit_register ∷ g.constant ∷ g.alias ∷ g.by_name ∷ g.gate_statement ∷ g.measurement ∷ g.reset ∷ g.barrier
-    ∷ g.if_else ∷ g.while_loop ∷ g.for_loop ∷ g.word_alone w.Break s.Break ∷ g.word_alone w.Continue s.Continue ∷ g.return ∷ []
+    ∷ g.if_else ∷ g.while_loop ∷ g.for_loop ∷ g.keyword_alone w.Break s.Break ∷ g.keyword_alone w.Continue s.Continue ∷ g.return ∷ []
 
 -- the words that they begin with
-abbrev pub other_words : List Word
+abbrev pub other_words : List Terminal
 other_words = w.Bool ∷ w.Bit ∷ w.Int ∷ w.Uint ∷ w.Angle ∷ w.Creg ∷ w.Const ∷ w.Let ∷ w.Name ∷ w.Inv ∷ w.Pow ∷ w.Ctrl ∷ w.NegCtrl ∷ w.GPhase ∷ w.Measure
     ∷ w.Reset ∷ w.Barrier ∷ w.If ∷ w.While ∷ w.For ∷ w.Break ∷ w.Continue ∷ w.Return ∷ []
 
-pub end_is : (tokens : List Terminal) (levels at : ℕ) → DiffersFrom ((stream tokens at).word) other_words
-    → read_statement_form tokens levels at ≡ read_word_alone tokens w.EndWord s.End at
-unfolding read_statement_form read_word_alone
-end_is tokens levels at d = skips tokens levels at {s = form} others (g.word_alone w.EndWord s.End) (none_of ((stream tokens at).word) other_words d)
+pub end_is : (tokens : List PlacedTerminal) (levels at : ℕ) → DiffersFrom ((stream tokens at).terminal) other_words
+    → read_statement_form tokens levels at ≡ read_keyword_alone tokens w.EndWord s.End at
+unfolding read_statement_form read_keyword_alone
+end_is tokens levels at d = skips tokens levels at {s = form} others (g.keyword_alone w.EndWord s.End) (none_of ((stream tokens at).terminal) other_words d)

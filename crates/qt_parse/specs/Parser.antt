@@ -21,10 +21,10 @@ use Rattle.qt_tree.specs.declared.program.ListItem.{ListItem}
 use Rattle.qt_tree.specs.declared.program.GateStatement.{GateStatement}
 use Rattle.qt_tree.specs.declared.program.GateForm.{GateForm}
 use Rattle.qt_tree.specs.declared.program.Parameter.{Parameter}
-use Rattle.qt_words.specs.declared.word.Word.{Word}
-use Rattle.qt_words.specs.declared.word.Word.TheVariants as w
-use Rattle.qt_words.specs.Words.{code}
-use Rattle.qt_words.specs.Terminals.{Terminal}
+use Rattle.qt_terminals.specs.declared.terminal.Terminal.{Terminal}
+use Rattle.qt_terminals.specs.declared.terminal.Terminal.TheVariants as w
+use Rattle.qt_terminals.specs.Alphabet.{code}
+use Rattle.qt_terminals.specs.Terminals.{PlacedTerminal}
 use Rattle.qt_grammar.specs.Sorts.{Sort, Value, token, target_tail, label, expr, scalar, operand, target, right, modifier, statement, gate_line, parameter, statement_tail, item, entry, version, several, optional, both, any, block, single, an_entry, in_array, parameters, gate_block}
 use Rattle.qt_grammar.specs.Form.{Form, one, then_, maybe, nearest, named}
 use Rattle.qt_grammar.specs.Outcome.{Outcome, and_then}
@@ -38,16 +38,16 @@ applied {A} {B} x out = and_then {A = A → B} {B = B} out (λ tail j. Ok (tail 
 
 -- a modifier and its `@`
 abbrev pub modifier_sign : Form modifier
-modifier_sign = g.a_modifier ⊲ g.sign w.At
+modifier_sign = g.a_modifier ⊲ g.exactly w.At
 
-module _ (tokens : List Terminal) where
+module _ (tokens : List PlacedTerminal) where
   -- ---- operands, targets, right sides
 
   unfoldable pub read_operand : ℕ → ℕ → Outcome Operand
   read_operand levels at = reading tokens levels g.an_operand None at
 
   -- operands with this sign between
-  unfoldable pub read_operands : Word → ℕ → ℕ → Outcome (List Operand)
+  unfoldable pub read_operands : Terminal → ℕ → ℕ → Outcome (List Operand)
   read_operands k levels at = reading tokens levels (g.separated {s = operand} k g.an_operand) None at
 
   -- operands with commas between, or none
@@ -71,9 +71,9 @@ module _ (tokens : List Terminal) where
   unfoldable pub read_modifier : ℕ → ℕ → Outcome Modifier
   read_modifier levels at = reading tokens levels g.a_modifier None at
 
-  -- the word of a control, and the number of controls
-  unfoldable pub read_controls : Word → ℕ → ℕ → Outcome (Option Expr)
-  read_controls k levels at = reading tokens levels (g.sign k ⊳ maybe (g.parens {s = expr} (named any))) None at
+  -- the terminal of a control, and the number of controls
+  unfoldable pub read_controls : Terminal → ℕ → ℕ → Outcome (Option Expr)
+  read_controls k levels at = reading tokens levels (g.exactly k ⊳ maybe (g.parens {s = expr} (named any))) None at
 
   unfoldable pub read_modifier_sign : ℕ → ℕ → Outcome Modifier
   read_modifier_sign levels at = reading tokens levels modifier_sign None at
@@ -131,7 +131,7 @@ module _ (tokens : List Terminal) where
 
   -- a compound assignment to this target, from its sign on
   unfoldable pub read_compound : ℕ → Target → ℕ → Outcome StatementForm
-  read_compound levels to at = applied {A = Target} {B = StatementForm} to (reading tokens levels (then_ {s = token} {t = expr} {u = target_tail} (λ k x to. s.CompoundAssignment to (g.compound_op k.word) x) (one g.compounds) g.expression) None at)
+  read_compound levels to at = applied {A = Target} {B = StatementForm} to (reading tokens levels (then_ {s = token} {t = expr} {u = target_tail} (λ k x to. s.CompoundAssignment to (g.compound_op k.terminal) x) (one g.compounds) g.expression) None at)
 
   -- the operands of a call, if it has any
   unfoldable pub read_call_operands : ℕ → ℕ → Outcome (Option (List Operand))
@@ -153,7 +153,7 @@ module _ (tokens : List Terminal) where
 
   -- the target of a measurement, if there is one
   unfoldable pub read_measured_to : ℕ → ℕ → Outcome (Option Target)
-  read_measured_to levels at = reading tokens levels (maybe {s = target} (g.sign w.Arrow ⊳ g.a_target)) None at
+  read_measured_to levels at = reading tokens levels (maybe {s = target} (g.exactly w.Arrow ⊳ g.a_target)) None at
 
   unfoldable pub read_measurement : ℕ → ℕ → Outcome StatementForm
   read_measurement levels at = reading tokens levels g.measurement None at
@@ -164,9 +164,9 @@ module _ (tokens : List Terminal) where
   unfoldable pub read_barrier : ℕ → ℕ → Outcome StatementForm
   read_barrier levels at = reading tokens levels g.barrier None at
 
-  -- a statement of one word
-  unfoldable pub read_word_alone : Word → StatementForm → ℕ → Outcome StatementForm
-  read_word_alone k x at = reading tokens 0 (g.word_alone k x) None at
+  -- a statement of one terminal
+  unfoldable pub read_keyword_alone : Terminal → StatementForm → ℕ → Outcome StatementForm
+  read_keyword_alone k x at = reading tokens 0 (g.keyword_alone k x) None at
 
   unfoldable pub read_return : ℕ → ℕ → Outcome StatementForm
   read_return levels at = reading tokens levels g.return None at
@@ -194,7 +194,7 @@ module _ (tokens : List Terminal) where
   read_if levels at = reading tokens levels g.if_else None at
 
   unfoldable pub read_otherwise : ℕ → ℕ → Outcome (Option (List Statement))
-  read_otherwise levels at = reading tokens levels (nearest {s = several statement} (code w.Else ∷ []) (g.sign w.Else ⊳ g.body)) None at
+  read_otherwise levels at = reading tokens levels (nearest {s = several statement} (code w.Else ∷ []) (g.exactly w.Else ⊳ g.body)) None at
 
   unfoldable pub read_while : ℕ → ℕ → Outcome StatementForm
   read_while levels at = reading tokens levels g.while_loop None at
@@ -217,14 +217,14 @@ module _ (tokens : List Terminal) where
   read_include place at = applied {A = Place} {B = Item} place (reading tokens 0 g.include None at)
 
   -- a text in quotes
-  unfoldable pub read_quoted : ℕ → Outcome Terminal
+  unfoldable pub read_quoted : ℕ → Outcome PlacedTerminal
   read_quoted at = reading tokens 0 (one (code w.Text ∷ code w.BitText ∷ [])) None at
 
-  -- the word of an input or output, its type and its name
-  unfoldable pub read_declared : Word → ℕ → ℕ → Outcome (Scalar × List ℕ)
-  read_declared k levels at = reading tokens levels (g.ended {s = both scalar label} (g.sign k ⊳ g.a_scalar ⊗ g.a_label)) None at
+  -- the terminal of an input or output, its type and its name
+  unfoldable pub read_declared : Terminal → ℕ → ℕ → Outcome (Scalar × List ℕ)
+  read_declared k levels at = reading tokens levels (g.ended {s = both scalar label} (g.exactly k ⊳ g.a_scalar ⊗ g.a_label)) None at
 
-  unfoldable pub read_interface : Word → (Place → Scalar → List ℕ → Item) → ℕ → Place → ℕ → Outcome Item
+  unfoldable pub read_interface : Terminal → (Place → Scalar → List ℕ → Item) → ℕ → Place → ℕ → Outcome Item
   read_interface k make levels place at = applied {A = Place} {B = Item} place (reading tokens levels (g.interface k make) None at)
 
   unfoldable pub read_qubits : ℕ → ℕ → Outcome (Option Expr × List ℕ)
@@ -258,13 +258,13 @@ module _ (tokens : List Terminal) where
   read_in_array levels at = named_to tokens levels in_array None at
 
   unfoldable pub read_element_and_lengths : ℕ → ℕ → Outcome (Scalar × List Expr)
-  read_element_and_lengths levels at = reading tokens levels (g.a_scalar ⊗ g.sign w.Comma ⊳ g.expressions) None at
+  read_element_and_lengths levels at = reading tokens levels (g.a_scalar ⊗ g.exactly w.Comma ⊳ g.expressions) None at
 
   unfoldable pub read_array_type : ℕ → ℕ → Outcome (Scalar × List Expr)
-  read_array_type levels at = reading tokens levels (g.sign w.Array ⊳ g.brackets {s = both scalar (several expr)} (named in_array)) None at
+  read_array_type levels at = reading tokens levels (g.exactly w.Array ⊳ g.brackets {s = both scalar (several expr)} (named in_array)) None at
 
   unfoldable pub read_array_value : ℕ → ℕ → Outcome (Option (List ListItem))
-  read_array_value levels at = reading tokens levels (maybe {s = several entry} (g.sign w.Assign ⊳ g.list)) None at
+  read_array_value levels at = reading tokens levels (maybe {s = several entry} (g.exactly w.Assign ⊳ g.list)) None at
 
   unfoldable pub read_array_item : ℕ → Place → ℕ → Outcome Item
   read_array_item levels place at = applied {A = Place} {B = Item} place (reading tokens levels g.array_item None at)
@@ -312,7 +312,7 @@ module _ (tokens : List Terminal) where
   read_in_definition levels at = reading tokens levels (g.parens {s = several parameter} (g.or_none {s = parameter} (named parameters))) None at
 
   unfoldable pub read_result_type : ℕ → ℕ → Outcome (Option Scalar)
-  read_result_type levels at = reading tokens levels (maybe {s = scalar} (g.sign w.Arrow ⊳ g.a_scalar)) None at
+  read_result_type levels at = reading tokens levels (maybe {s = scalar} (g.exactly w.Arrow ⊳ g.a_scalar)) None at
 
   unfoldable pub read_definition : ℕ → Place → ℕ → Outcome Item
   read_definition levels place at = applied {A = Place} {B = Item} place (reading tokens levels g.definition None at)

@@ -4,9 +4,9 @@ use Rattle.std.specs.Prelude.{◌≡◌, ℕ, ◌⊎◌, List, Some, None}
 use Rattle.qt_tree.specs.declared.place.Place.{Place}
 use Rattle.qt_tree.specs.declared.refusal.Feature.{Feature}
 use Rattle.qt_tree.specs.declared.refusal.Feature.TheVariants as f
-use Rattle.qt_words.specs.declared.word.Word.TheVariants as w
-use Rattle.qt_words.specs.Words.{feature_of}
-use Rattle.qt_words.specs.Terminals.{Terminal, stream}
+use Rattle.qt_terminals.specs.declared.terminal.Terminal.TheVariants as w
+use Rattle.qt_terminals.specs.Alphabet.{feature_of}
+use Rattle.qt_terminals.specs.Terminals.{PlacedTerminal, stream}
 use Rattle.qt_grammar.specs.Sorts.{program}
 use Rattle.qt_grammar.specs.Language.{whole}
 use Rattle.qt_grammar.specs.Reading.{language_limits}
@@ -14,12 +14,12 @@ use Rattle.qt_grammar.specs.Promise.{NoProgram, FirstTooDeep, CouldBegin}
 use Rattle.qt_expr.specs.declared.refusal.ParseRefusal.{ParseRefusal}
 use Rattle.qt_expr.specs.declared.refusal.ParseRefusal.TheVariants.{Syntax, Nest, NotInProfile, OutOfMemory}
 
-module _ (all : List Terminal) where
-  -- the token at place n of the list is of a feature that the profile leaves out: by its word, or as an `@` where a statement,
+module _ (all : List PlacedTerminal) where
+  -- the token at place n of the list is of a feature that the profile leaves out: by its terminal, or as an `@` where a statement,
   -- or a call in a gate's body, could begin
   abbrev pub IsOfFeature : ℕ → Feature → Type 0
-  IsOfFeature n feature = (feature_of (stream all n).word ≡ Some feature)
-      ⊎ (((stream all n).word ≡ w.At) × CouldBegin all n × (feature ≡ f.Annotation))
+  IsOfFeature n feature = (feature_of (stream all n).terminal ≡ Some feature)
+      ⊎ (((stream all n).terminal ≡ w.At) × CouldBegin all n × (feature ≡ f.Annotation))
 
   -- no program is spelled, whatever the limits, and the stopper stands at this place of the text
   pub record StopsAt (n : ℕ) (at : Place) : Type 0 where

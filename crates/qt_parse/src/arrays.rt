@@ -1,7 +1,7 @@
 //! Arrays and their values.
 
 ghost use Rattle.std.specs.Prelude.{◌≡◌, length, None};
-ghost use Rattle.qt_words.specs.declared.word.Word.TheVariants as w;
+ghost use Rattle.qt_terminals.specs.declared.terminal.Terminal.TheVariants as w;
 ghost use Rattle.qt_grammar.specs.Sorts.{entry};
 ghost use Rattle.qt_grammar.specs.Language as g;
 ghost use Rattle.qt_grammar.specs.Outcome.{Says};
@@ -11,19 +11,19 @@ ghost use Rattle.qt_parse.specs.Parser.{read_list, read_entries, read_entry_list
 use crate::lookahead::{begins_entry, begins_scalar};
 use qt_expr::expression::{expression, expressions, scalar};
 use qt_expr::nesting::{Nesting, too_deep};
-use qt_expr::pieces::{ended, together};
-use qt_expr::sign::{behind, label, next_is, sign};
+use qt_expr::one_token::{behind, exactly, label, next_is};
+use qt_expr::pieces::{ended, paired};
 use qt_grammar::refusal::Refusal;
+use qt_terminals::stream::TokenStream;
+use qt_terminals::terminal::Terminal;
 use qt_tree::expression::{Expr, Scalar};
 use qt_tree::place::Place;
 use qt_tree::program::{ArrayItem, Item, ListItem};
-use qt_words::stream::TokenStream;
-use qt_words::word::Word;
 use sqlite_items::Items;
 use std::alloc::Global;
 
 /// `list = "{" item { "," item } "}"`
-#[tactic(auto, unfolding(crate::specs::Parser::read_list, crate::specs::Parser::read_entries, qt_expr::specs::Parser::read_sign))]
+#[tactic(auto, unfolding(crate::specs::Parser::read_list, crate::specs::Parser::read_entries, qt_expr::specs::Parser::read_exactly))]
 #[cycle(entry)]
 fn list(
     alloc: Global,
@@ -33,9 +33,9 @@ fn list(
 ) -> Result<(Items<ListItem>, usize), Refusal>
     ensures { Says (read_list tokens.now levels at) result }
 {
-    let at = sign(tokens, at, Word::LeftBrace)?;
+    let at = exactly(tokens, at, Terminal::LeftBrace)?;
     let (all, at) = entries(alloc, tokens, levels, at)?;
-    let at = sign(tokens, at, Word::RightBrace)?;
+    let at = exactly(tokens, at, Terminal::RightBrace)?;
     Ok((all, at))
 }
 
@@ -88,7 +88,7 @@ fn more_entries(
     let mut all = all;
     let mut at = at;
     'turn: for turn in 0..tokens.len() {
-        if !next_is(tokens, at, Word::Comma) {
+        if !next_is(tokens, at, Terminal::Comma) {
             return Ok((all, at));
         }
         let (next, behind) = entry(alloc, tokens, levels, behind(tokens, at))?;
@@ -109,7 +109,7 @@ fn entry(
 ) -> Result<(ListItem, usize), Refusal>
     ensures { Says (read_entry tokens.now levels at) result }
 {
-    if next_is(tokens, at, Word::LeftBrace) {
+    if next_is(tokens, at, Terminal::LeftBrace) {
         let (items, at) = list(alloc, tokens, levels, at)?;
         return Ok((ListItem::List { items }, at));
     }
@@ -126,7 +126,7 @@ fn entry(
 }
 
 /// `[ "=" list ]`
-#[tactic(auto, unfolding(crate::specs::Parser::read_array_value, crate::specs::Parser::read_list, qt_expr::specs::Parser::read_sign))]
+#[tactic(auto, unfolding(crate::specs::Parser::read_array_value, crate::specs::Parser::read_list, qt_expr::specs::Parser::read_exactly))]
 fn array_value(
     alloc: Global,
     tokens: &TokenStream<'_>,
@@ -135,16 +135,16 @@ fn array_value(
 ) -> Result<(Option<Items<ListItem>>, usize), Refusal>
     ensures { Says (read_array_value tokens.now levels at) result }
 {
-    if !next_is(tokens, at, Word::Assign) {
+    if !next_is(tokens, at, Terminal::Assign) {
         return Ok((None, at));
     }
-    let at = sign(tokens, at, Word::Assign)?;
+    let at = exactly(tokens, at, Terminal::Assign)?;
     let (value, at) = list(alloc, tokens, levels, at)?;
     Ok((Some(value), at))
 }
 
 /// `scalar "," expr { "," expr }`
-#[tactic(auto, unfolding(crate::specs::Parser::read_element_and_lengths, qt_expr::specs::Parser::read_scalar, qt_expr::specs::Parser::read_expressions, qt_expr::specs::Parser::read_sign))]
+#[tactic(auto, unfolding(crate::specs::Parser::read_element_and_lengths, qt_expr::specs::Parser::read_scalar, qt_expr::specs::Parser::read_expressions, qt_expr::specs::Parser::read_exactly))]
 fn element_and_lengths(
     alloc: Global,
     tokens: &TokenStream<'_>,
@@ -162,7 +162,7 @@ fn element_and_lengths(
         },
         at,
     )?;
-    let (scalar, at) = ended(tokens, scalar, at, Word::Comma)?;
+    let (scalar, at) = ended(tokens, scalar, at, Terminal::Comma)?;
     let dimensions = expressions(
         alloc,
         tokens,
@@ -172,7 +172,7 @@ fn element_and_lengths(
         },
         at,
     );
-    together(scalar, dimensions)
+    paired(scalar, dimensions)
 }
 
 /// What stands in the brackets of an array, one level deeper.
@@ -192,7 +192,7 @@ fn in_array(
 }
 
 /// `"array" "[" scalar "," expr { "," expr } "]"`
-#[tactic(auto, unfolding(crate::specs::Parser::read_array_type, crate::specs::Parser::read_in_array, qt_expr::specs::Parser::read_sign))]
+#[tactic(auto, unfolding(crate::specs::Parser::read_array_type, crate::specs::Parser::read_in_array, qt_expr::specs::Parser::read_exactly))]
 fn array_type(
     alloc: Global,
     tokens: &TokenStream<'_>,
@@ -201,14 +201,14 @@ fn array_type(
 ) -> Result<((Scalar, Items<Expr>), usize), Refusal>
     ensures { Says (read_array_type tokens.now levels at) result }
 {
-    let at = sign(tokens, at, Word::Array)?;
-    let at = sign(tokens, at, Word::LeftBracket)?;
+    let at = exactly(tokens, at, Terminal::Array)?;
+    let at = exactly(tokens, at, Terminal::LeftBracket)?;
     let (inside, at) = in_array(alloc, tokens, levels, at)?;
-    ended(tokens, inside, at, Word::RightBracket)
+    ended(tokens, inside, at, Terminal::RightBracket)
 }
 
 /// `"array" "[" scalar "," expr { "," expr } "]" Name [ "=" list ] ";"`
-#[tactic(auto, unfolding(crate::specs::Parser::read_array_item, crate::specs::Parser::read_array_type, crate::specs::Parser::read_array_value, qt_expr::specs::Parser::read_label, qt_expr::specs::Parser::read_sign))]
+#[tactic(auto, unfolding(crate::specs::Parser::read_array_item, crate::specs::Parser::read_array_type, crate::specs::Parser::read_array_value, qt_expr::specs::Parser::read_label, qt_expr::specs::Parser::read_exactly))]
 pub fn array_item(
     alloc: Global,
     tokens: &TokenStream<'_>,
@@ -219,9 +219,14 @@ pub fn array_item(
     ensures { Says (read_array_item tokens.now levels place at) result }
 {
     let (array_type, at) = array_type(alloc, tokens, levels, at)?;
-    let (declared, at) = together(array_type, label(alloc, tokens, at))?;
-    let (parts, at) = together(declared, array_value(alloc, tokens, levels, at))?;
-    let ((((scalar, dimensions), name), value), at) = ended(tokens, parts, at, Word::Semicolon)?;
+    let (declared, at) = paired(array_type, label(alloc, tokens, at))?;
+    let (parts, at) = paired(declared, array_value(alloc, tokens, levels, at))?;
+    let ((((scalar, dimensions), name), value), at) = ended(
+        tokens,
+        parts,
+        at,
+        Terminal::Semicolon,
+    )?;
     let array = ArrayItem {
         place,
         scalar,

@@ -1,9 +1,9 @@
 //! Assignments and calls: the statements that begin with a name.
 
 ghost use Rattle.std.specs.Prelude.{◌≡◌, ◌<◌, [], ◌∷◌, IfSome, IfNone, true, false};
-ghost use Rattle.qt_words.specs.Words as words;
-ghost use Rattle.qt_words.specs.Terminals.{stream};
-ghost use Rattle.qt_grammar.specs.Form.{member, word_at};
+ghost use Rattle.qt_terminals.specs.Alphabet as alphabet;
+ghost use Rattle.qt_terminals.specs.Terminals.{stream};
+ghost use Rattle.qt_grammar.specs.Form.{member, terminal_at};
 ghost use Rattle.qt_grammar.specs.Lookahead.{first};
 ghost use Rattle.qt_grammar.specs.Language as g;
 ghost use Rattle.qt_grammar.specs.Outcome.{Says};
@@ -13,47 +13,54 @@ ghost use Rattle.qt_parse.specs.Parser.{read_assigned, read_compound, read_call_
 use crate::operands::{first_value, operands};
 use qt_expr::expression::{all_indexes, arguments, expression};
 use qt_expr::nesting::Nesting;
-use qt_expr::sign::{behind, label, next_is, sign};
+use qt_expr::one_token::{behind, exactly, label, next_is};
 use qt_grammar::refusal::Refusal;
-use qt_tree::expression::{BinaryOp, Expr};
+use qt_terminals::stream::TokenStream;
+use qt_terminals::terminal::Terminal;
+use qt_tree::expression::{Expr, InfixOperator};
 use qt_tree::label::Label;
 use qt_tree::statement::{CalledGate, GateCall, Operand, StatementForm, Target};
-use qt_words::stream::TokenStream;
-use qt_words::word::Word;
 use sqlite_items::Items;
 use std::alloc::Global;
 
 /// The operator of the compound assignment whose sign stands here.
-fn compound_operator(tokens: &TokenStream<'_>, at: usize) -> Option<BinaryOp>
-    ensures some { IfSome result (λ operator. operator ≡ g.compound_op (stream tokens.now at).word) }
-    ensures yes { IfSome result (λ operator. member (word_at (stream tokens.now) at) g.compounds ≡ true) }
-    ensures within { IfSome result (λ operator. 0 < word_at (stream tokens.now) at) }
-    ensures none { IfNone result (member (word_at (stream tokens.now) at) g.compounds ≡ false) }
+fn compound_operator(tokens: &TokenStream<'_>, at: usize) -> Option<InfixOperator>
+    ensures some { IfSome result (λ operator. operator ≡ g.compound_op (stream tokens.now at).terminal) }
+    ensures yes { IfSome result (λ operator. member (terminal_at (stream tokens.now) at) g.compounds ≡ true) }
+    ensures within { IfSome result (λ operator. 0 < terminal_at (stream tokens.now) at) }
+    ensures none { IfNone result (member (terminal_at (stream tokens.now) at) g.compounds ≡ false) }
 {
-    match tokens.word(at) {
-        Word::PlusAssign => Some(BinaryOp::Add),
-        Word::MinusAssign => Some(BinaryOp::Sub),
-        Word::StarAssign => Some(BinaryOp::Mul),
-        Word::SlashAssign => Some(BinaryOp::Div),
-        Word::PercentAssign => Some(BinaryOp::Rem),
-        Word::StarStarAssign => Some(BinaryOp::Pow),
-        Word::AndAssign => Some(BinaryOp::And),
-        Word::OrAssign => Some(BinaryOp::Or),
-        Word::CaretAssign => Some(BinaryOp::Xor),
-        Word::ShiftLeftAssign => Some(BinaryOp::Shl),
-        Word::ShiftRightAssign => Some(BinaryOp::Shr),
+    match tokens.terminal(at) {
+        Terminal::PlusAssign => Some(InfixOperator::Add),
+        Terminal::MinusAssign => Some(InfixOperator::Sub),
+        Terminal::StarAssign => Some(InfixOperator::Mul),
+        Terminal::SlashAssign => Some(InfixOperator::Div),
+        Terminal::PercentAssign => Some(InfixOperator::Rem),
+        Terminal::StarStarAssign => Some(InfixOperator::Pow),
+        Terminal::AndAssign => Some(InfixOperator::And),
+        Terminal::OrAssign => Some(InfixOperator::Or),
+        Terminal::CaretAssign => Some(InfixOperator::Xor),
+        Terminal::ShiftLeftAssign => Some(InfixOperator::Shl),
+        Terminal::ShiftRightAssign => Some(InfixOperator::Shr),
         _ => None,
     }
 }
 
 /// Does the sign of an assignment stand here?
 fn begins_assignment(tokens: &TokenStream<'_>, at: usize) -> bool
-    ensures { result ≡ member (word_at (stream tokens.now) at) (first g.behind_target) }
+    ensures { result ≡ member (terminal_at (stream tokens.now) at) (first g.behind_target) }
 {
-    match tokens.word(at) {
-        Word::Assign | Word::PlusAssign | Word::MinusAssign | Word::StarAssign => true,
-        Word::SlashAssign | Word::PercentAssign | Word::StarStarAssign | Word::AndAssign => true,
-        Word::OrAssign | Word::CaretAssign | Word::ShiftLeftAssign | Word::ShiftRightAssign => true,
+    match tokens.terminal(at) {
+        Terminal::Assign | Terminal::PlusAssign | Terminal::MinusAssign | Terminal::StarAssign =>
+            true,
+        Terminal::SlashAssign
+        | Terminal::PercentAssign
+        | Terminal::StarStarAssign
+        | Terminal::AndAssign => true,
+        Terminal::OrAssign
+        | Terminal::CaretAssign
+        | Terminal::ShiftLeftAssign
+        | Terminal::ShiftRightAssign => true,
         _ => false,
     }
 }
@@ -101,7 +108,7 @@ fn assigned(
 ) -> Result<(StatementForm, usize), Refusal>
     ensures { Says (read_assigned tokens.now levels target at) result }
 {
-    if !next_is(tokens, at, Word::Assign) {
+    if !next_is(tokens, at, Terminal::Assign) {
         return compound(alloc, tokens, levels, at, target);
     }
     let (value, at) = first_value(alloc, tokens, levels, at)?;
@@ -118,10 +125,10 @@ fn call_operands(
 ) -> Result<(Option<Items<Operand>>, usize), Refusal>
     ensures { Says (read_call_operands tokens.now levels at) result }
 {
-    if !next_is(tokens, at, Word::Name) {
+    if !next_is(tokens, at, Terminal::Name) {
         return Ok((None, at));
     }
-    let (operands, at) = operands(alloc, tokens, levels, at, Word::Comma)?;
+    let (operands, at) = operands(alloc, tokens, levels, at, Terminal::Comma)?;
     Ok((Some(operands), at))
 }
 
@@ -180,7 +187,7 @@ fn behind_first_name(
 ) -> Result<(StatementForm, usize), Refusal>
     ensures { Says (read_behind_first_name tokens.now levels name at) result }
 {
-    if next_is(tokens, at, Word::LeftBracket) {
+    if next_is(tokens, at, Terminal::LeftBracket) {
         let (brackets, at) = all_indexes(
             alloc,
             tokens,
@@ -192,14 +199,14 @@ fn behind_first_name(
         )?;
         return assigned(alloc, tokens, levels, at, Target { name, brackets });
     }
-    if next_is(tokens, at, Word::LeftParen) {
+    if next_is(tokens, at, Terminal::LeftParen) {
         return called(alloc, tokens, levels, at, name);
     }
     if begins_assignment(tokens, at) {
         let brackets = Items::new(alloc);
         return assigned(alloc, tokens, levels, at, Target { name, brackets });
     }
-    let (operands, at) = operands(alloc, tokens, levels, at, Word::Comma)?;
+    let (operands, at) = operands(alloc, tokens, levels, at, Terminal::Comma)?;
     let call = gate_call(alloc, name, None, operands);
     Ok((StatementForm::Gate { call }, at))
 }
@@ -216,6 +223,6 @@ pub fn by_name(
 {
     let (name, at) = label(alloc, tokens, at)?;
     let (form, at) = behind_first_name(alloc, tokens, levels, at, name)?;
-    let at = sign(tokens, at, Word::Semicolon)?;
+    let at = exactly(tokens, at, Terminal::Semicolon)?;
     Ok((form, at))
 }

@@ -15,17 +15,17 @@ use crate::statements::{
 };
 use qt_expr::expression::{in_parentheses, range, scalar, set};
 use qt_expr::nesting::{Nesting, too_deep};
-use qt_expr::pieces::{ended, together};
-use qt_expr::sign::{label, next_is, sign};
+use qt_expr::one_token::{exactly, label, next_is};
+use qt_expr::pieces::{ended, paired};
 use qt_grammar::refusal::Refusal;
+use qt_terminals::stream::TokenStream;
+use qt_terminals::terminal::Terminal;
 use qt_tree::statement::{Sequence, Statement, StatementForm};
-use qt_words::stream::TokenStream;
-use qt_words::word::Word;
 use sqlite_items::Items;
 use std::alloc::Global;
 
 /// `"if" "(" expr ")" body [ "else" body ]`
-#[tactic(auto, unfolding(crate::specs::Parser::read_if, crate::specs::Parser::read_otherwise, crate::specs::Parser::read_body, qt_expr::specs::Parser::read_in_parentheses, qt_expr::specs::Parser::read_sign))]
+#[tactic(auto, unfolding(crate::specs::Parser::read_if, crate::specs::Parser::read_otherwise, crate::specs::Parser::read_body, qt_expr::specs::Parser::read_in_parentheses, qt_expr::specs::Parser::read_exactly))]
 #[cycle(statement)]
 fn if_statement(
     alloc: Global,
@@ -35,7 +35,7 @@ fn if_statement(
 ) -> Result<(StatementForm, usize), Refusal>
     ensures { Says (read_if tokens.now levels at) result }
 {
-    let at = sign(tokens, at, Word::If)?;
+    let at = exactly(tokens, at, Terminal::If)?;
     let (condition, at) = in_parentheses(
         alloc,
         tokens,
@@ -45,11 +45,8 @@ fn if_statement(
         },
         at,
     )?;
-    let (parts, at) = together(condition, body(alloc, tokens, levels, at))?;
-    let (((condition, body), otherwise), at) = together(
-        parts,
-        otherwise(alloc, tokens, levels, at),
-    )?;
+    let (parts, at) = paired(condition, body(alloc, tokens, levels, at))?;
+    let (((condition, body), otherwise), at) = paired(parts, otherwise(alloc, tokens, levels, at))?;
     let form = StatementForm::If {
         condition,
         body,
@@ -59,7 +56,7 @@ fn if_statement(
 }
 
 /// `[ "else" body ]`, which belongs to the nearest `if`.
-#[tactic(auto, unfolding(crate::specs::Parser::read_otherwise, crate::specs::Parser::read_body, qt_expr::specs::Parser::read_sign))]
+#[tactic(auto, unfolding(crate::specs::Parser::read_otherwise, crate::specs::Parser::read_body, qt_expr::specs::Parser::read_exactly))]
 #[cycle(statement)]
 fn otherwise(
     alloc: Global,
@@ -69,16 +66,16 @@ fn otherwise(
 ) -> Result<(Option<Items<Statement>>, usize), Refusal>
     ensures { Says (read_otherwise tokens.now levels at) result }
 {
-    if !next_is(tokens, at, Word::Else) {
+    if !next_is(tokens, at, Terminal::Else) {
         return Ok((None, at));
     }
-    let at = sign(tokens, at, Word::Else)?;
+    let at = exactly(tokens, at, Terminal::Else)?;
     let (body, at) = body(alloc, tokens, levels, at)?;
     Ok((Some(body), at))
 }
 
 /// `"while" "(" expr ")" body`
-#[tactic(auto, unfolding(crate::specs::Parser::read_while, crate::specs::Parser::read_body, qt_expr::specs::Parser::read_in_parentheses, qt_expr::specs::Parser::read_sign))]
+#[tactic(auto, unfolding(crate::specs::Parser::read_while, crate::specs::Parser::read_body, qt_expr::specs::Parser::read_in_parentheses, qt_expr::specs::Parser::read_exactly))]
 #[cycle(statement)]
 fn while_loop(
     alloc: Global,
@@ -88,7 +85,7 @@ fn while_loop(
 ) -> Result<(StatementForm, usize), Refusal>
     ensures { Says (read_while tokens.now levels at) result }
 {
-    let at = sign(tokens, at, Word::While)?;
+    let at = exactly(tokens, at, Terminal::While)?;
     let (condition, at) = in_parentheses(
         alloc,
         tokens,
@@ -98,12 +95,12 @@ fn while_loop(
         },
         at,
     )?;
-    let ((condition, body), at) = together(condition, body(alloc, tokens, levels, at))?;
+    let ((condition, body), at) = paired(condition, body(alloc, tokens, levels, at))?;
     Ok((StatementForm::While { condition, body }, at))
 }
 
 /// `"[" range "]" | "{" exprs "}" | Name`
-#[tactic(auto, unfolding(crate::specs::Parser::read_sequence, qt_expr::specs::Parser::read_range, qt_expr::specs::Parser::read_set, qt_expr::specs::Parser::read_label, qt_expr::specs::Parser::read_sign))]
+#[tactic(auto, unfolding(crate::specs::Parser::read_sequence, qt_expr::specs::Parser::read_range, qt_expr::specs::Parser::read_set, qt_expr::specs::Parser::read_label, qt_expr::specs::Parser::read_exactly))]
 fn sequence(
     alloc: Global,
     tokens: &TokenStream<'_>,
@@ -112,8 +109,8 @@ fn sequence(
 ) -> Result<(Sequence, usize), Refusal>
     ensures { Says (read_sequence tokens.now levels at) result }
 {
-    if next_is(tokens, at, Word::LeftBracket) {
-        let at = sign(tokens, at, Word::LeftBracket)?;
+    if next_is(tokens, at, Terminal::LeftBracket) {
+        let at = exactly(tokens, at, Terminal::LeftBracket)?;
         let (range, at) = range(
             alloc,
             tokens,
@@ -123,10 +120,10 @@ fn sequence(
             },
             at,
         )?;
-        let (range, at) = ended(tokens, range, at, Word::RightBracket)?;
+        let (range, at) = ended(tokens, range, at, Terminal::RightBracket)?;
         return Ok((Sequence::Range { range }, at));
     }
-    if next_is(tokens, at, Word::LeftBrace) {
+    if next_is(tokens, at, Terminal::LeftBrace) {
         let (members, at) = set(
             alloc,
             tokens,
@@ -143,7 +140,7 @@ fn sequence(
 }
 
 /// `"for" scalar Name "in" ( "[" range "]" | "{" exprs "}" | Name ) body`
-#[tactic(auto, unfolding(crate::specs::Parser::read_for, crate::specs::Parser::read_sequence, crate::specs::Parser::read_body, qt_expr::specs::Parser::read_scalar, qt_expr::specs::Parser::read_label, qt_expr::specs::Parser::read_sign))]
+#[tactic(auto, unfolding(crate::specs::Parser::read_for, crate::specs::Parser::read_sequence, crate::specs::Parser::read_body, qt_expr::specs::Parser::read_scalar, qt_expr::specs::Parser::read_label, qt_expr::specs::Parser::read_exactly))]
 #[cycle(statement)]
 fn for_loop(
     alloc: Global,
@@ -153,7 +150,7 @@ fn for_loop(
 ) -> Result<(StatementForm, usize), Refusal>
     ensures { Says (read_for tokens.now levels at) result }
 {
-    let at = sign(tokens, at, Word::For)?;
+    let at = exactly(tokens, at, Terminal::For)?;
     let (scalar, at) = scalar(
         alloc,
         tokens,
@@ -163,10 +160,10 @@ fn for_loop(
         },
         at,
     )?;
-    let (declared, at) = together(scalar, label(alloc, tokens, at))?;
-    let (declared, at) = ended(tokens, declared, at, Word::In)?;
-    let (head, at) = together(declared, sequence(alloc, tokens, levels, at))?;
-    let ((((scalar, name), values), body), at) = together(head, body(alloc, tokens, levels, at))?;
+    let (declared, at) = paired(scalar, label(alloc, tokens, at))?;
+    let (declared, at) = ended(tokens, declared, at, Terminal::In)?;
+    let (head, at) = paired(declared, sequence(alloc, tokens, levels, at))?;
+    let ((((scalar, name), values), body), at) = paired(head, body(alloc, tokens, levels, at))?;
     let form = StatementForm::For {
         scalar,
         name,
@@ -177,7 +174,7 @@ fn for_loop(
 }
 
 /// A statement, but for its place.
-#[tactic(auto, unfolding(crate::specs::Parser::read_statement_form, crate::specs::Parser::read_if, crate::specs::Parser::read_while, crate::specs::Parser::read_for, crate::specs::Parser::read_declaration, crate::specs::Parser::read_bit_register, crate::specs::Parser::read_constant, crate::specs::Parser::read_alias, crate::specs::Parser::read_by_name, crate::specs::Parser::read_gate_statement, crate::specs::Parser::read_measurement, crate::specs::Parser::read_reset, crate::specs::Parser::read_barrier, crate::specs::Parser::read_return, crate::specs::Parser::read_word_alone))]
+#[tactic(auto, unfolding(crate::specs::Parser::read_statement_form, crate::specs::Parser::read_if, crate::specs::Parser::read_while, crate::specs::Parser::read_for, crate::specs::Parser::read_declaration, crate::specs::Parser::read_bit_register, crate::specs::Parser::read_constant, crate::specs::Parser::read_alias, crate::specs::Parser::read_by_name, crate::specs::Parser::read_gate_statement, crate::specs::Parser::read_measurement, crate::specs::Parser::read_reset, crate::specs::Parser::read_barrier, crate::specs::Parser::read_return, crate::specs::Parser::read_keyword_alone))]
 #[cycle(statement)]
 pub fn statement_form(
     alloc: Global,
@@ -187,26 +184,24 @@ pub fn statement_form(
 ) -> Result<(StatementForm, usize), Refusal>
     ensures { Says (read_statement_form tokens.now levels at) result }
 {
-    match tokens.word(at) {
-        Word::Bool | Word::Bit | Word::Int | Word::Uint | Word::Angle => declaration(
-            alloc, tokens, levels, at,
-        ),
-        Word::Creg => bit_register(alloc, tokens, levels, at),
-        Word::Const => constant(alloc, tokens, levels, at),
-        Word::Let => alias(alloc, tokens, levels, at),
-        Word::Name => by_name(alloc, tokens, levels, at),
-        Word::Inv | Word::Pow | Word::Ctrl | Word::NegCtrl | Word::GPhase => gate_statement(
-            alloc, tokens, levels, at,
-        ),
-        Word::Measure => measurement(alloc, tokens, levels, at),
-        Word::Reset => reset(alloc, tokens, levels, at),
-        Word::Barrier => barrier(alloc, tokens, levels, at),
-        Word::If => if_statement(alloc, tokens, levels, at),
-        Word::While => while_loop(alloc, tokens, levels, at),
-        Word::For => for_loop(alloc, tokens, levels, at),
-        Word::Break => break_statement(tokens, at),
-        Word::Continue => continue_statement(tokens, at),
-        Word::Return => return_statement(alloc, tokens, levels, at),
+    match tokens.terminal(at) {
+        Terminal::Bool | Terminal::Bit | Terminal::Int | Terminal::Uint | Terminal::Angle =>
+            declaration(alloc, tokens, levels, at),
+        Terminal::Creg => bit_register(alloc, tokens, levels, at),
+        Terminal::Const => constant(alloc, tokens, levels, at),
+        Terminal::Let => alias(alloc, tokens, levels, at),
+        Terminal::Name => by_name(alloc, tokens, levels, at),
+        Terminal::Inv | Terminal::Pow | Terminal::Ctrl | Terminal::NegCtrl | Terminal::GPhase =>
+            gate_statement(alloc, tokens, levels, at),
+        Terminal::Measure => measurement(alloc, tokens, levels, at),
+        Terminal::Reset => reset(alloc, tokens, levels, at),
+        Terminal::Barrier => barrier(alloc, tokens, levels, at),
+        Terminal::If => if_statement(alloc, tokens, levels, at),
+        Terminal::While => while_loop(alloc, tokens, levels, at),
+        Terminal::For => for_loop(alloc, tokens, levels, at),
+        Terminal::Break => break_statement(tokens, at),
+        Terminal::Continue => continue_statement(tokens, at),
+        Terminal::Return => return_statement(alloc, tokens, levels, at),
         _ => end_statement(tokens, at),
     }
 }
@@ -307,7 +302,7 @@ fn single(
 }
 
 /// `block = "{" { statement } "}"`
-#[tactic(auto, unfolding(crate::specs::Parser::read_a_block, crate::specs::Parser::read_block, qt_expr::specs::Parser::read_sign))]
+#[tactic(auto, unfolding(crate::specs::Parser::read_a_block, crate::specs::Parser::read_block, qt_expr::specs::Parser::read_exactly))]
 #[cycle(statement)]
 pub fn braced(
     alloc: Global,
@@ -317,13 +312,13 @@ pub fn braced(
 ) -> Result<(Items<Statement>, usize), Refusal>
     ensures { Says (read_a_block tokens.now levels at) result }
 {
-    let at = sign(tokens, at, Word::LeftBrace)?;
+    let at = exactly(tokens, at, Terminal::LeftBrace)?;
     let (all, at) = if begins_statement(tokens, at) {
         block(alloc, tokens, levels, at)?
     } else {
         (Items::new(alloc), at)
     };
-    let at = sign(tokens, at, Word::RightBrace)?;
+    let at = exactly(tokens, at, Terminal::RightBrace)?;
     Ok((all, at))
 }
 
@@ -338,7 +333,7 @@ fn body(
 ) -> Result<(Items<Statement>, usize), Refusal>
     ensures { Says (read_body tokens.now levels at) result }
 {
-    if next_is(tokens, at, Word::LeftBrace) {
+    if next_is(tokens, at, Terminal::LeftBrace) {
         braced(alloc, tokens, levels, at)
     } else {
         single(alloc, tokens, levels, at)

@@ -1,10 +1,10 @@
 //! Gate calls and their modifiers.
 
 ghost use Rattle.std.specs.Prelude.{◌≡◌, ◌<◌, length, None};
-ghost use Rattle.qt_words.specs.Words as words;
-ghost use Rattle.qt_words.specs.Terminals.{stream};
+ghost use Rattle.qt_terminals.specs.Alphabet as alphabet;
+ghost use Rattle.qt_terminals.specs.Terminals.{stream};
 ghost use Rattle.qt_grammar.specs.Sorts.{modifier};
-ghost use Rattle.qt_grammar.specs.Form.{member, word_at};
+ghost use Rattle.qt_grammar.specs.Form.{member, terminal_at};
 ghost use Rattle.qt_grammar.specs.Lookahead.{first};
 ghost use Rattle.qt_grammar.specs.Language as g;
 ghost use Rattle.qt_grammar.specs.Outcome.{Says};
@@ -14,40 +14,40 @@ ghost use Rattle.qt_parse.specs.Parser.{modifier_sign, read_controls, read_modif
 use crate::operands::{any_operands, operands};
 use qt_expr::expression::{arguments, in_parentheses};
 use qt_expr::nesting::Nesting;
-use qt_expr::pieces::{ended, together};
-use qt_expr::sign::{label, next_is, sign};
+use qt_expr::one_token::{exactly, label, next_is};
+use qt_expr::pieces::{ended, paired};
 use qt_grammar::refusal::Refusal;
+use qt_terminals::stream::TokenStream;
+use qt_terminals::terminal::Terminal;
 use qt_tree::expression::Expr;
 use qt_tree::statement::{CalledGate, GateCall, Modifier};
-use qt_words::stream::TokenStream;
-use qt_words::word::Word;
 use sqlite_items::Items;
 use std::alloc::Global;
 
 /// Does a modifier begin here?
 pub fn begins_modifier(tokens: &TokenStream<'_>, at: usize) -> bool
-    ensures { result ≡ member (word_at (stream tokens.now) at) (first g.a_modifier) }
+    ensures { result ≡ member (terminal_at (stream tokens.now) at) (first g.a_modifier) }
 {
-    match tokens.word(at) {
-        Word::Inv | Word::Pow | Word::Ctrl | Word::NegCtrl => true,
+    match tokens.terminal(at) {
+        Terminal::Inv | Terminal::Pow | Terminal::Ctrl | Terminal::NegCtrl => true,
         _ => false,
     }
 }
 
 /// `( "ctrl" | "negctrl" ) [ "(" expr ")" ]`, of which the number of controls is answered.
-#[tactic(auto, unfolding(crate::specs::Parser::read_controls, qt_expr::specs::Parser::read_in_parentheses, qt_expr::specs::Parser::read_sign))]
+#[tactic(auto, unfolding(crate::specs::Parser::read_controls, qt_expr::specs::Parser::read_in_parentheses, qt_expr::specs::Parser::read_exactly))]
 fn controls(
     alloc: Global,
     tokens: &TokenStream<'_>,
     levels: usize,
     at: usize,
-    word: Word,
+    terminal: Terminal,
 ) -> Result<(Option<Expr>, usize), Refusal>
-    requires { 0 < words.code word }
-    ensures { Says (read_controls tokens.now word levels at) result }
+    requires { 0 < alphabet.code terminal }
+    ensures { Says (read_controls tokens.now terminal levels at) result }
 {
-    let at = sign(tokens, at, word)?;
-    if !next_is(tokens, at, Word::LeftParen) {
+    let at = exactly(tokens, at, terminal)?;
+    if !next_is(tokens, at, Terminal::LeftParen) {
         return Ok((None, at));
     }
     let (count, at) = in_parentheses(
@@ -63,7 +63,7 @@ fn controls(
 }
 
 /// `modifier = "inv" | "pow" "(" expr ")" | ( "ctrl" | "negctrl" ) [ "(" expr ")" ]`
-#[tactic(auto, unfolding(crate::specs::Parser::read_modifier, crate::specs::Parser::read_controls, qt_expr::specs::Parser::read_in_parentheses, qt_expr::specs::Parser::read_sign))]
+#[tactic(auto, unfolding(crate::specs::Parser::read_modifier, crate::specs::Parser::read_controls, qt_expr::specs::Parser::read_in_parentheses, qt_expr::specs::Parser::read_exactly))]
 fn modifier(
     alloc: Global,
     tokens: &TokenStream<'_>,
@@ -72,13 +72,13 @@ fn modifier(
 ) -> Result<(Modifier, usize), Refusal>
     ensures { Says (read_modifier tokens.now levels at) result }
 {
-    match tokens.word(at) {
-        Word::Inv => {
-            let at = sign(tokens, at, Word::Inv)?;
+    match tokens.terminal(at) {
+        Terminal::Inv => {
+            let at = exactly(tokens, at, Terminal::Inv)?;
             Ok((Modifier::Inv, at))
         }
-        Word::Pow => {
-            let at = sign(tokens, at, Word::Pow)?;
+        Terminal::Pow => {
+            let at = exactly(tokens, at, Terminal::Pow)?;
             let (exponent, at) = in_parentheses(
                 alloc,
                 tokens,
@@ -90,19 +90,19 @@ fn modifier(
             )?;
             Ok((Modifier::Pow { exponent }, at))
         }
-        Word::Ctrl => {
-            let (count, at) = controls(alloc, tokens, levels, at, Word::Ctrl)?;
+        Terminal::Ctrl => {
+            let (count, at) = controls(alloc, tokens, levels, at, Terminal::Ctrl)?;
             Ok((Modifier::Ctrl { count }, at))
         }
         _ => {
-            let (count, at) = controls(alloc, tokens, levels, at, Word::NegCtrl)?;
+            let (count, at) = controls(alloc, tokens, levels, at, Terminal::NegCtrl)?;
             Ok((Modifier::NegCtrl { count }, at))
         }
     }
 }
 
 /// A modifier and its `@`.
-#[tactic(auto, unfolding(crate::specs::Parser::read_modifier_sign, crate::specs::Parser::read_modifier, qt_expr::specs::Parser::read_sign))]
+#[tactic(auto, unfolding(crate::specs::Parser::read_modifier_sign, crate::specs::Parser::read_modifier, qt_expr::specs::Parser::read_exactly))]
 fn modifier_sign(
     alloc: Global,
     tokens: &TokenStream<'_>,
@@ -112,7 +112,7 @@ fn modifier_sign(
     ensures { Says (read_modifier_sign tokens.now levels at) result }
 {
     let (modifier, at) = modifier(alloc, tokens, levels, at)?;
-    ended(tokens, modifier, at, Word::At)
+    ended(tokens, modifier, at, Terminal::At)
 }
 
 /// `{ modifier "@" }`, at least one; the outermost is the first.
@@ -156,7 +156,7 @@ fn more_modifiers(
 }
 
 /// `"gphase" "(" expr ")" [ operands ]`
-#[tactic(auto, unfolding(crate::specs::Parser::read_phase_call, crate::specs::Parser::read_any_operands, qt_expr::specs::Parser::read_in_parentheses, qt_expr::specs::Parser::read_sign))]
+#[tactic(auto, unfolding(crate::specs::Parser::read_phase_call, crate::specs::Parser::read_any_operands, qt_expr::specs::Parser::read_in_parentheses, qt_expr::specs::Parser::read_exactly))]
 pub fn phase_call(
     alloc: Global,
     tokens: &TokenStream<'_>,
@@ -165,7 +165,7 @@ pub fn phase_call(
 ) -> Result<(GateCall, usize), Refusal>
     ensures { Says (read_phase_call tokens.now levels at) result }
 {
-    let at = sign(tokens, at, Word::GPhase)?;
+    let at = exactly(tokens, at, Terminal::GPhase)?;
     let (angle, at) = in_parentheses(
         alloc,
         tokens,
@@ -175,7 +175,7 @@ pub fn phase_call(
         },
         at,
     )?;
-    let ((angle, operands), at) = together(angle, any_operands(alloc, tokens, levels, at))?;
+    let ((angle, operands), at) = paired(angle, any_operands(alloc, tokens, levels, at))?;
     let call = GateCall {
         modifiers: Items::new(alloc),
         gate: CalledGate::GlobalPhase { angle },
@@ -194,7 +194,7 @@ fn gate_arguments(
 ) -> Result<(Option<Items<Expr>>, usize), Refusal>
     ensures { Says (read_gate_arguments tokens.now levels at) result }
 {
-    if !next_is(tokens, at, Word::LeftParen) {
+    if !next_is(tokens, at, Terminal::LeftParen) {
         return Ok((None, at));
     }
     let (arguments, at) = arguments(
@@ -221,7 +221,7 @@ fn named_call(
 {
     let (name, at) = label(alloc, tokens, at)?;
     let (arguments, at) = gate_arguments(alloc, tokens, levels, at)?;
-    let (operands, at) = operands(alloc, tokens, levels, at, Word::Comma)?;
+    let (operands, at) = operands(alloc, tokens, levels, at, Terminal::Comma)?;
     let call = GateCall {
         modifiers: Items::new(alloc),
         gate: CalledGate::Named { name, arguments },
@@ -240,7 +240,7 @@ fn bare_call(
 ) -> Result<(GateCall, usize), Refusal>
     ensures { Says (read_bare_call tokens.now levels at) result }
 {
-    if next_is(tokens, at, Word::GPhase) {
+    if next_is(tokens, at, Terminal::GPhase) {
         phase_call(alloc, tokens, levels, at)
     } else {
         named_call(alloc, tokens, levels, at)

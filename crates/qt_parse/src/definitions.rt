@@ -1,7 +1,7 @@
 //! Gates and subroutines.
 
 ghost use Rattle.std.specs.Prelude.{◌≡◌, length, None};
-ghost use Rattle.qt_words.specs.declared.word.Word.TheVariants as w;
+ghost use Rattle.qt_terminals.specs.declared.terminal.Terminal.TheVariants as w;
 ghost use Rattle.qt_grammar.specs.Sorts.{gate_line, parameter};
 ghost use Rattle.qt_grammar.specs.Language as g;
 ghost use Rattle.qt_grammar.specs.Outcome.{Says};
@@ -14,15 +14,15 @@ use crate::items::qubits;
 use crate::lookahead::{begins_gate_line, begins_parameter, begins_scalar};
 use qt_expr::expression::scalar;
 use qt_expr::nesting::{Nesting, too_deep};
-use qt_expr::pieces::{ended, together};
-use qt_expr::sign::{behind, label, names, next_is, sign};
+use qt_expr::one_token::{behind, exactly, label, names, next_is};
+use qt_expr::pieces::{ended, paired};
 use qt_grammar::refusal::Refusal;
+use qt_terminals::stream::TokenStream;
+use qt_terminals::terminal::Terminal;
 use qt_tree::expression::Scalar;
 use qt_tree::label::Label;
 use qt_tree::place::Place;
 use qt_tree::program::{Definition, GateForm, GateItem, GateStatement, Item, Parameter};
-use qt_words::stream::TokenStream;
-use qt_words::word::Word;
 use sqlite_items::Items;
 use std::alloc::Global;
 
@@ -35,14 +35,14 @@ fn any_names(
 ) -> Result<(Items<Label>, usize), Refusal>
     ensures { Says (read_any_names tokens.now at) result }
 {
-    if !next_is(tokens, at, Word::Name) {
+    if !next_is(tokens, at, Terminal::Name) {
         return Ok((Items::new(alloc), at));
     }
     names(alloc, tokens, at)
 }
 
 /// `gatecall | "barrier" [ names ] ";"`
-#[tactic(auto, unfolding(crate::specs::Parser::read_gate_line_form, crate::specs::Parser::read_gate_call, crate::specs::Parser::read_any_names, qt_expr::specs::Parser::read_sign))]
+#[tactic(auto, unfolding(crate::specs::Parser::read_gate_line_form, crate::specs::Parser::read_gate_call, crate::specs::Parser::read_any_names, qt_expr::specs::Parser::read_exactly))]
 fn gate_line_form(
     alloc: Global,
     tokens: &TokenStream<'_>,
@@ -51,14 +51,14 @@ fn gate_line_form(
 ) -> Result<(GateForm, usize), Refusal>
     ensures { Says (read_gate_line_form tokens.now levels at) result }
 {
-    if next_is(tokens, at, Word::Barrier) {
-        let at = sign(tokens, at, Word::Barrier)?;
+    if next_is(tokens, at, Terminal::Barrier) {
+        let at = exactly(tokens, at, Terminal::Barrier)?;
         let (qubits, at) = any_names(alloc, tokens, at)?;
-        let (qubits, at) = ended(tokens, qubits, at, Word::Semicolon)?;
+        let (qubits, at) = ended(tokens, qubits, at, Terminal::Semicolon)?;
         return Ok((GateForm::Barrier { qubits }, at));
     }
     let (call, at) = gate_call(alloc, tokens, levels, at)?;
-    let (call, at) = ended(tokens, call, at, Word::Semicolon)?;
+    let (call, at) = ended(tokens, call, at, Terminal::Semicolon)?;
     Ok((GateForm::Call { call }, at))
 }
 
@@ -134,7 +134,7 @@ fn gate_block(
 }
 
 /// `"{" { gatecall | "barrier" [ names ] ";" } "}"`
-#[tactic(auto, unfolding(crate::specs::Parser::read_gate_body, crate::specs::Parser::read_gate_block, qt_expr::specs::Parser::read_sign))]
+#[tactic(auto, unfolding(crate::specs::Parser::read_gate_body, crate::specs::Parser::read_gate_block, qt_expr::specs::Parser::read_exactly))]
 fn gate_body(
     alloc: Global,
     tokens: &TokenStream<'_>,
@@ -143,18 +143,18 @@ fn gate_body(
 ) -> Result<(Items<GateStatement>, usize), Refusal>
     ensures { Says (read_gate_body tokens.now levels at) result }
 {
-    let at = sign(tokens, at, Word::LeftBrace)?;
+    let at = exactly(tokens, at, Terminal::LeftBrace)?;
     let (body, at) = if begins_gate_line(tokens, at) {
         gate_block(alloc, tokens, levels, at)?
     } else {
         (Items::new(alloc), at)
     };
-    let at = sign(tokens, at, Word::RightBrace)?;
+    let at = exactly(tokens, at, Terminal::RightBrace)?;
     Ok((body, at))
 }
 
 /// `[ "(" [ names ] ")" ]`
-#[tactic(auto, unfolding(crate::specs::Parser::read_gate_parameters, crate::specs::Parser::read_any_names, qt_expr::specs::Parser::read_sign))]
+#[tactic(auto, unfolding(crate::specs::Parser::read_gate_parameters, crate::specs::Parser::read_any_names, qt_expr::specs::Parser::read_exactly))]
 fn gate_parameters(
     alloc: Global,
     tokens: &TokenStream<'_>,
@@ -162,17 +162,17 @@ fn gate_parameters(
 ) -> Result<(Option<Items<Label>>, usize), Refusal>
     ensures { Says (read_gate_parameters tokens.now at) result }
 {
-    if !next_is(tokens, at, Word::LeftParen) {
+    if !next_is(tokens, at, Terminal::LeftParen) {
         return Ok((None, at));
     }
-    let at = sign(tokens, at, Word::LeftParen)?;
+    let at = exactly(tokens, at, Terminal::LeftParen)?;
     let (parameters, at) = any_names(alloc, tokens, at)?;
-    let at = sign(tokens, at, Word::RightParen)?;
+    let at = exactly(tokens, at, Terminal::RightParen)?;
     Ok((Some(parameters), at))
 }
 
 /// `"gate" Name [ "(" [ names ] ")" ] names "{" { gatecall | "barrier" [ names ] ";" } "}"`
-#[tactic(auto, unfolding(crate::specs::Parser::read_gate_item, crate::specs::Parser::read_gate_parameters, crate::specs::Parser::read_gate_body, qt_expr::specs::Parser::read_names, qt_expr::specs::Parser::read_label, qt_expr::specs::Parser::read_sign))]
+#[tactic(auto, unfolding(crate::specs::Parser::read_gate_item, crate::specs::Parser::read_gate_parameters, crate::specs::Parser::read_gate_body, qt_expr::specs::Parser::read_names, qt_expr::specs::Parser::read_label, qt_expr::specs::Parser::read_exactly))]
 pub fn gate_item(
     alloc: Global,
     tokens: &TokenStream<'_>,
@@ -182,7 +182,7 @@ pub fn gate_item(
 ) -> Result<(Item, usize), Refusal>
     ensures { Says (read_gate_item tokens.now levels place at) result }
 {
-    let at = sign(tokens, at, Word::Gate)?;
+    let at = exactly(tokens, at, Terminal::Gate)?;
     let (name, at) = label(alloc, tokens, at)?;
     let (parameters, at) = gate_parameters(alloc, tokens, at)?;
     let (qubits, at) = names(alloc, tokens, at)?;
@@ -217,7 +217,7 @@ fn parameter(
             },
             at,
         )?;
-        let ((scalar, name), at) = together(scalar, label(alloc, tokens, at))?;
+        let ((scalar, name), at) = paired(scalar, label(alloc, tokens, at))?;
         return Ok((Parameter::Classical { scalar, name }, at));
     }
     let ((size, name), at) = qubits(alloc, tokens, levels, at)?;
@@ -254,7 +254,7 @@ fn more_parameters(
     let mut all = all;
     let mut at = at;
     'turn: for turn in 0..tokens.len() {
-        if !next_is(tokens, at, Word::Comma) {
+        if !next_is(tokens, at, Terminal::Comma) {
             return Ok((all, at));
         }
         let (next, behind) = parameter(alloc, tokens, levels, behind(tokens, at))?;
@@ -281,7 +281,7 @@ fn parameters(
 }
 
 /// `"(" [ param { "," param } ] ")"`
-#[tactic(auto, unfolding(crate::specs::Parser::read_in_definition, crate::specs::Parser::read_parameters, qt_expr::specs::Parser::read_sign))]
+#[tactic(auto, unfolding(crate::specs::Parser::read_in_definition, crate::specs::Parser::read_parameters, qt_expr::specs::Parser::read_exactly))]
 fn in_definition(
     alloc: Global,
     tokens: &TokenStream<'_>,
@@ -290,18 +290,18 @@ fn in_definition(
 ) -> Result<(Items<Parameter>, usize), Refusal>
     ensures { Says (read_in_definition tokens.now levels at) result }
 {
-    let at = sign(tokens, at, Word::LeftParen)?;
+    let at = exactly(tokens, at, Terminal::LeftParen)?;
     let (all, at) = if begins_parameter(tokens, at) {
         parameters(alloc, tokens, levels, at)?
     } else {
         (Items::new(alloc), at)
     };
-    let at = sign(tokens, at, Word::RightParen)?;
+    let at = exactly(tokens, at, Terminal::RightParen)?;
     Ok((all, at))
 }
 
 /// `[ "->" scalar ]`
-#[tactic(auto, unfolding(crate::specs::Parser::read_result_type, qt_expr::specs::Parser::read_scalar, qt_expr::specs::Parser::read_sign))]
+#[tactic(auto, unfolding(crate::specs::Parser::read_result_type, qt_expr::specs::Parser::read_scalar, qt_expr::specs::Parser::read_exactly))]
 fn result_type(
     alloc: Global,
     tokens: &TokenStream<'_>,
@@ -310,10 +310,10 @@ fn result_type(
 ) -> Result<(Option<Scalar>, usize), Refusal>
     ensures { Says (read_result_type tokens.now levels at) result }
 {
-    if !next_is(tokens, at, Word::Arrow) {
+    if !next_is(tokens, at, Terminal::Arrow) {
         return Ok((None, at));
     }
-    let at = sign(tokens, at, Word::Arrow)?;
+    let at = exactly(tokens, at, Terminal::Arrow)?;
     let (scalar, at) = scalar(
         alloc,
         tokens,
@@ -327,7 +327,7 @@ fn result_type(
 }
 
 /// `"def" Name "(" [ param { "," param } ] ")" [ "->" scalar ] block`
-#[tactic(auto, unfolding(crate::specs::Parser::read_definition, crate::specs::Parser::read_in_definition, crate::specs::Parser::read_result_type, crate::specs::Parser::read_a_block, qt_expr::specs::Parser::read_label, qt_expr::specs::Parser::read_sign))]
+#[tactic(auto, unfolding(crate::specs::Parser::read_definition, crate::specs::Parser::read_in_definition, crate::specs::Parser::read_result_type, crate::specs::Parser::read_a_block, qt_expr::specs::Parser::read_label, qt_expr::specs::Parser::read_exactly))]
 pub fn definition(
     alloc: Global,
     tokens: &TokenStream<'_>,
@@ -337,7 +337,7 @@ pub fn definition(
 ) -> Result<(Item, usize), Refusal>
     ensures { Says (read_definition tokens.now levels place at) result }
 {
-    let at = sign(tokens, at, Word::Def)?;
+    let at = exactly(tokens, at, Terminal::Def)?;
     let (name, at) = label(alloc, tokens, at)?;
     let (parameters, at) = in_definition(alloc, tokens, levels, at)?;
     let (result_type, at) = result_type(alloc, tokens, levels, at)?;

@@ -1,9 +1,9 @@
 //! Includes, inputs and outputs, and qubits.
 
-ghost use Rattle.qt_words.specs.Terminals.{stream};
+ghost use Rattle.qt_terminals.specs.Terminals.{stream};
 ghost use Rattle.std.specs.Prelude.{◌≡◌, ◌<◌};
-ghost use Rattle.qt_words.specs.Words as words;
-ghost use Rattle.qt_words.specs.declared.word.Word.TheVariants as w;
+ghost use Rattle.qt_terminals.specs.Alphabet as alphabet;
+ghost use Rattle.qt_terminals.specs.declared.terminal.Terminal.TheVariants as w;
 ghost use Rattle.qt_tree.specs.declared.program.Item.TheVariants as i;
 ghost use Rattle.qt_grammar.specs.Outcome.{Says};
 ghost use Rattle.qt_expr.specs.Parser.{Steps};
@@ -12,31 +12,31 @@ ghost use Rattle.qt_parse.specs.Parser.{read_include, read_quoted, read_declared
 use crate::statements::optional_size;
 use qt_expr::expression::scalar;
 use qt_expr::nesting::Nesting;
-use qt_expr::pieces::{ended, together};
-use qt_expr::sign::{label, next_is, sign};
+use qt_expr::one_token::{exactly, label, next_is};
+use qt_expr::pieces::{ended, paired};
 use qt_grammar::refusal::Refusal;
+use qt_terminals::stream::TokenStream;
+use qt_terminals::terminal::Terminal;
 use qt_tree::expression::{Expr, Scalar};
 use qt_tree::label::Label;
 use qt_tree::place::Place;
 use qt_tree::program::Item;
-use qt_words::stream::TokenStream;
-use qt_words::word::Word;
 use std::alloc::Global;
 
 /// A text in quotes, whether its characters are binary digits or not.
-#[tactic(auto, unfolding(crate::specs::Parser::read_quoted, qt_expr::specs::Parser::read_sign))]
+#[tactic(auto, unfolding(crate::specs::Parser::read_quoted, qt_expr::specs::Parser::read_exactly))]
 fn quoted(tokens: &TokenStream<'_>, at: usize) -> Result<usize, Refusal>
     ensures { Steps (read_quoted tokens.now at) (stream tokens.now at) result }
 {
-    if next_is(tokens, at, Word::Text) {
-        sign(tokens, at, Word::Text)
+    if next_is(tokens, at, Terminal::Text) {
+        exactly(tokens, at, Terminal::Text)
     } else {
-        sign(tokens, at, Word::BitText)
+        exactly(tokens, at, Terminal::BitText)
     }
 }
 
 /// `"include" Text ";"`
-#[tactic(auto, unfolding(crate::specs::Parser::read_include, crate::specs::Parser::read_quoted, qt_expr::specs::Parser::read_sign))]
+#[tactic(auto, unfolding(crate::specs::Parser::read_include, crate::specs::Parser::read_quoted, qt_expr::specs::Parser::read_exactly))]
 pub fn include(
     alloc: Global,
     tokens: &TokenStream<'_>,
@@ -45,27 +45,27 @@ pub fn include(
 ) -> Result<(Item, usize), Refusal>
     ensures { Says (read_include tokens.now place at) result }
 {
-    let at = sign(tokens, at, Word::Include)?;
+    let at = exactly(tokens, at, Terminal::Include)?;
     let text = at;
     let at = quoted(tokens, at)?;
-    let at = sign(tokens, at, Word::Semicolon)?;
+    let at = exactly(tokens, at, Terminal::Semicolon)?;
     let name = Label::new(alloc, tokens.inside_quotes(text))?;
     Ok((Item::Include { place, name }, at))
 }
 
-/// A word, a type and a name with their semicolon.
-#[tactic(auto, unfolding(crate::specs::Parser::read_declared, qt_expr::specs::Parser::read_scalar, qt_expr::specs::Parser::read_label, qt_expr::specs::Parser::read_sign))]
+/// A terminal, a type and a name with their semicolon.
+#[tactic(auto, unfolding(crate::specs::Parser::read_declared, qt_expr::specs::Parser::read_scalar, qt_expr::specs::Parser::read_label, qt_expr::specs::Parser::read_exactly))]
 fn declared(
     alloc: Global,
     tokens: &TokenStream<'_>,
     levels: usize,
     at: usize,
-    word: Word,
+    terminal: Terminal,
 ) -> Result<((Scalar, Label), usize), Refusal>
-    requires { 0 < words.code word }
-    ensures { Says (read_declared tokens.now word levels at) result }
+    requires { 0 < alphabet.code terminal }
+    ensures { Says (read_declared tokens.now terminal levels at) result }
 {
-    let at = sign(tokens, at, word)?;
+    let at = exactly(tokens, at, terminal)?;
     let (scalar, at) = scalar(
         alloc,
         tokens,
@@ -75,8 +75,8 @@ fn declared(
         },
         at,
     )?;
-    let (declared, at) = together(scalar, label(alloc, tokens, at))?;
-    ended(tokens, declared, at, Word::Semicolon)
+    let (declared, at) = paired(scalar, label(alloc, tokens, at))?;
+    ended(tokens, declared, at, Terminal::Semicolon)
 }
 
 /// `"input" scalar Name ";"`
@@ -90,7 +90,7 @@ pub fn input(
 ) -> Result<(Item, usize), Refusal>
     ensures { Says (read_interface tokens.now w.Input i.Input levels place at) result }
 {
-    let ((scalar, name), at) = declared(alloc, tokens, levels, at, Word::Input)?;
+    let ((scalar, name), at) = declared(alloc, tokens, levels, at, Terminal::Input)?;
     let item = Item::Input {
         place,
         scalar,
@@ -110,7 +110,7 @@ pub fn output(
 ) -> Result<(Item, usize), Refusal>
     ensures { Says (read_interface tokens.now w.Output i.Output levels place at) result }
 {
-    let ((scalar, name), at) = declared(alloc, tokens, levels, at, Word::Output)?;
+    let ((scalar, name), at) = declared(alloc, tokens, levels, at, Terminal::Output)?;
     let item = Item::Output {
         place,
         scalar,
@@ -120,7 +120,7 @@ pub fn output(
 }
 
 /// `"qubit" [ "[" expr "]" ] Name`
-#[tactic(auto, unfolding(crate::specs::Parser::read_qubits, crate::specs::Parser::read_optional_size, qt_expr::specs::Parser::read_label, qt_expr::specs::Parser::read_sign))]
+#[tactic(auto, unfolding(crate::specs::Parser::read_qubits, crate::specs::Parser::read_optional_size, qt_expr::specs::Parser::read_label, qt_expr::specs::Parser::read_exactly))]
 pub fn qubits(
     alloc: Global,
     tokens: &TokenStream<'_>,
@@ -129,13 +129,13 @@ pub fn qubits(
 ) -> Result<((Option<Expr>, Label), usize), Refusal>
     ensures { Says (read_qubits tokens.now levels at) result }
 {
-    let at = sign(tokens, at, Word::Qubit)?;
+    let at = exactly(tokens, at, Terminal::Qubit)?;
     let (size, at) = optional_size(alloc, tokens, levels, at)?;
-    together(size, label(alloc, tokens, at))
+    paired(size, label(alloc, tokens, at))
 }
 
 /// `"qubit" [ "[" expr "]" ] Name ";"`
-#[tactic(auto, unfolding(crate::specs::Parser::read_qubit_item, crate::specs::Parser::read_qubits, qt_expr::specs::Parser::read_sign))]
+#[tactic(auto, unfolding(crate::specs::Parser::read_qubit_item, crate::specs::Parser::read_qubits, qt_expr::specs::Parser::read_exactly))]
 pub fn qubit_item(
     alloc: Global,
     tokens: &TokenStream<'_>,
@@ -146,12 +146,12 @@ pub fn qubit_item(
     ensures { Says (read_qubit_item tokens.now levels place at) result }
 {
     let (declared, at) = qubits(alloc, tokens, levels, at)?;
-    let ((size, name), at) = ended(tokens, declared, at, Word::Semicolon)?;
+    let ((size, name), at) = ended(tokens, declared, at, Terminal::Semicolon)?;
     Ok((Item::Qubit { place, size, name }, at))
 }
 
 /// `"qreg" Name [ "[" expr "]" ] ";"`
-#[tactic(auto, unfolding(crate::specs::Parser::read_register_item, crate::specs::Parser::read_optional_size, qt_expr::specs::Parser::read_label, qt_expr::specs::Parser::read_sign))]
+#[tactic(auto, unfolding(crate::specs::Parser::read_register_item, crate::specs::Parser::read_optional_size, qt_expr::specs::Parser::read_label, qt_expr::specs::Parser::read_exactly))]
 pub fn register_item(
     alloc: Global,
     tokens: &TokenStream<'_>,
@@ -161,9 +161,9 @@ pub fn register_item(
 ) -> Result<(Item, usize), Refusal>
     ensures { Says (read_register_item tokens.now levels place at) result }
 {
-    let at = sign(tokens, at, Word::Qreg)?;
+    let at = exactly(tokens, at, Terminal::Qreg)?;
     let (name, at) = label(alloc, tokens, at)?;
-    let (parts, at) = together(name, optional_size(alloc, tokens, levels, at))?;
-    let ((name, size), at) = ended(tokens, parts, at, Word::Semicolon)?;
+    let (parts, at) = paired(name, optional_size(alloc, tokens, levels, at))?;
+    let ((name, size), at) = ended(tokens, parts, at, Terminal::Semicolon)?;
     Ok((Item::QubitRegister { place, name, size }, at))
 }

@@ -1,8 +1,8 @@
 //! Operands, targets and right sides.
 
 ghost use Rattle.std.specs.Prelude.{◌≡◌, ◌<◌, length, None};
-ghost use Rattle.qt_words.specs.Words as words;
-ghost use Rattle.qt_words.specs.declared.word.Word.TheVariants as w;
+ghost use Rattle.qt_terminals.specs.Alphabet as alphabet;
+ghost use Rattle.qt_terminals.specs.declared.terminal.Terminal.TheVariants as w;
 ghost use Rattle.qt_grammar.specs.Sorts.{operand};
 ghost use Rattle.qt_grammar.specs.Language as g;
 ghost use Rattle.qt_grammar.specs.Outcome.{Says};
@@ -11,17 +11,17 @@ ghost use Rattle.qt_parse.specs.Parser.{read_operand, read_operands, read_any_op
 
 use qt_expr::expression::{all_indexes, expression, index};
 use qt_expr::nesting::Nesting;
-use qt_expr::pieces::{ended, together};
-use qt_expr::sign::{behind, label, next_is, sign};
+use qt_expr::one_token::{behind, exactly, label, next_is};
+use qt_expr::pieces::{ended, paired};
 use qt_grammar::refusal::Refusal;
+use qt_terminals::stream::TokenStream;
+use qt_terminals::terminal::Terminal;
 use qt_tree::statement::{Operand, Right, Target};
-use qt_words::stream::TokenStream;
-use qt_words::word::Word;
 use sqlite_items::Items;
 use std::alloc::Global;
 
 /// `operand = Name [ "[" index "]" ]`
-#[tactic(auto, unfolding(crate::specs::Parser::read_operand, qt_expr::specs::Parser::read_label, qt_expr::specs::Parser::read_index, qt_expr::specs::Parser::read_sign))]
+#[tactic(auto, unfolding(crate::specs::Parser::read_operand, qt_expr::specs::Parser::read_label, qt_expr::specs::Parser::read_index, qt_expr::specs::Parser::read_exactly))]
 pub fn operand(
     alloc: Global,
     tokens: &TokenStream<'_>,
@@ -31,10 +31,10 @@ pub fn operand(
     ensures { Says (read_operand tokens.now levels at) result }
 {
     let (name, at) = label(alloc, tokens, at)?;
-    if !next_is(tokens, at, Word::LeftBracket) {
+    if !next_is(tokens, at, Terminal::LeftBracket) {
         return Ok((Operand { name, index: None }, at));
     }
-    let (name, at) = ended(tokens, name, at, Word::LeftBracket)?;
+    let (name, at) = ended(tokens, name, at, Terminal::LeftBracket)?;
     let index = index(
         alloc,
         tokens,
@@ -44,8 +44,8 @@ pub fn operand(
         },
         at,
     );
-    let (parts, at) = together(name, index)?;
-    let ((name, index), at) = ended(tokens, parts, at, Word::RightBracket)?;
+    let (parts, at) = paired(name, index)?;
+    let ((name, index), at) = ended(tokens, parts, at, Terminal::RightBracket)?;
     let index = Some(index);
     Ok((Operand { name, index }, at))
 }
@@ -57,9 +57,9 @@ pub fn operands(
     tokens: &TokenStream<'_>,
     levels: usize,
     at: usize,
-    between: Word,
+    between: Terminal,
 ) -> Result<(Items<Operand>, usize), Refusal>
-    requires { 0 < words.code between }
+    requires { 0 < alphabet.code between }
     ensures { Says (read_operands tokens.now between levels at) result }
 {
     let (first, at) = operand(alloc, tokens, levels, at)?;
@@ -75,10 +75,10 @@ fn more_operands(
     tokens: &TokenStream<'_>,
     levels: usize,
     at: usize,
-    between: Word,
+    between: Terminal,
     all: Items<Operand>,
 ) -> Result<(Items<Operand>, usize), Refusal>
-    requires { 0 < words.code between }
+    requires { 0 < alphabet.code between }
     ensures { Says (rest_separated tokens.now {s = operand} between g.an_operand levels None (length tokens.now) all at) result }
 {
     let mut all = all;
@@ -104,10 +104,10 @@ pub fn any_operands(
 ) -> Result<(Items<Operand>, usize), Refusal>
     ensures { Says (read_any_operands tokens.now levels at) result }
 {
-    if !next_is(tokens, at, Word::Name) {
+    if !next_is(tokens, at, Terminal::Name) {
         return Ok((Items::new(alloc), at));
     }
-    operands(alloc, tokens, levels, at, Word::Comma)
+    operands(alloc, tokens, levels, at, Terminal::Comma)
 }
 
 /// `target = Name { "[" index { "," index } "]" }`
@@ -121,7 +121,7 @@ pub fn target(
     ensures { Says (read_target tokens.now levels at) result }
 {
     let (name, at) = label(alloc, tokens, at)?;
-    if !next_is(tokens, at, Word::LeftBracket) {
+    if !next_is(tokens, at, Terminal::LeftBracket) {
         let brackets = Items::new(alloc);
         return Ok((Target { name, brackets }, at));
     }
@@ -138,7 +138,7 @@ pub fn target(
 }
 
 /// `"measure" operand`
-#[tactic(auto, unfolding(crate::specs::Parser::read_measured, crate::specs::Parser::read_operand, qt_expr::specs::Parser::read_sign))]
+#[tactic(auto, unfolding(crate::specs::Parser::read_measured, crate::specs::Parser::read_operand, qt_expr::specs::Parser::read_exactly))]
 pub fn measured(
     alloc: Global,
     tokens: &TokenStream<'_>,
@@ -147,7 +147,7 @@ pub fn measured(
 ) -> Result<(Operand, usize), Refusal>
     ensures { Says (read_measured tokens.now levels at) result }
 {
-    let at = sign(tokens, at, Word::Measure)?;
+    let at = exactly(tokens, at, Terminal::Measure)?;
     operand(alloc, tokens, levels, at)
 }
 
@@ -161,7 +161,7 @@ pub fn right(
 ) -> Result<(Right, usize), Refusal>
     ensures { Says (read_right tokens.now levels at) result }
 {
-    if next_is(tokens, at, Word::Measure) {
+    if next_is(tokens, at, Terminal::Measure) {
         let (qubits, at) = measured(alloc, tokens, levels, at)?;
         return Ok((Right::Measure { qubits }, at));
     }
@@ -178,7 +178,7 @@ pub fn right(
 }
 
 /// `"=" right`
-#[tactic(auto, unfolding(crate::specs::Parser::read_first_value, crate::specs::Parser::read_right, qt_expr::specs::Parser::read_sign))]
+#[tactic(auto, unfolding(crate::specs::Parser::read_first_value, crate::specs::Parser::read_right, qt_expr::specs::Parser::read_exactly))]
 pub fn first_value(
     alloc: Global,
     tokens: &TokenStream<'_>,
@@ -187,6 +187,6 @@ pub fn first_value(
 ) -> Result<(Right, usize), Refusal>
     ensures { Says (read_first_value tokens.now levels at) result }
 {
-    let at = sign(tokens, at, Word::Assign)?;
+    let at = exactly(tokens, at, Terminal::Assign)?;
     right(alloc, tokens, levels, at)
 }

@@ -1,8 +1,8 @@
 //! The program of a text, or why there is none.
 
 ghost use Rattle.std.specs.Prelude.{◌≡◌, IfOk, IfErr, true, false, Err};
-ghost use Rattle.qt_words.specs.declared.word.Word.TheVariants as w;
-ghost use Rattle.qt_words.specs.Terminals.{stream, terminals};
+ghost use Rattle.qt_terminals.specs.declared.terminal.Terminal.TheVariants as w;
+ghost use Rattle.qt_terminals.specs.Terminals.{stream, terminals};
 ghost use Rattle.qt_grammar.specs.declared.refusal.Refusal.TheVariants.{Syntax};
 ghost use Rattle.qt_grammar.specs.Promise.{OnlyProgram, CouldBegin};
 ghost use Rattle.qt_grammar.specs.Reading.{language_limits};
@@ -10,16 +10,16 @@ ghost use Rattle.qt_parse.specs.Parser.{read_whole};
 ghost use Rattle.qt_parse.specs.Promise.{Refused};
 
 use crate::program::whole;
-use qt_expr::refusal::{ParseRefusal, told};
+use qt_expr::refusal::{ParseRefusal, located};
 use qt_grammar::refusal::Refusal;
 use qt_lex::tokens::Token;
+use qt_terminals::stream::TokenStream;
+use qt_terminals::terminal::Terminal;
 use qt_tree::program::Program;
 use qt_tree::refusal::Feature;
-use qt_words::stream::TokenStream;
-use qt_words::word::Word;
 use std::alloc::{AllocError, Global};
 
-/// Whether a statement, or a call in a gate's body, could begin at a token that no program has there. It has the word `barrier`
+/// Whether a statement, or a call in a gate's body, could begin at a token that no program has there. It has the terminal `barrier`
 /// afterwards.
 #[tactic(auto, using(crate::proofs::Promises::begins, crate::proofs::Promises::never_begins))]
 fn could_begin(alloc: Global, tokens: &mut TokenStream<'_>, at: usize) -> Result<bool, AllocError>
@@ -27,7 +27,7 @@ fn could_begin(alloc: Global, tokens: &mut TokenStream<'_>, at: usize) -> Result
     ensures yes { IfOk result (λ found. found ≡ true → CouldBegin tokens.old at) }
     ensures no { IfOk result (λ found. found ≡ false → CouldBegin tokens.old at → ⊥) }
 {
-    tokens.replaced(at, Word::Barrier);
+    tokens.replaced(at, Terminal::Barrier);
     match whole(alloc, tokens) {
         Err(Refusal::OutOfMemory) => Err(AllocError),
         Err(Refusal::Syntax(found)) => Ok(found != at),
@@ -36,19 +36,19 @@ fn could_begin(alloc: Global, tokens: &mut TokenStream<'_>, at: usize) -> Result
 }
 
 /// Why the token is refused that no program has there.
-#[tactic(auto, using(crate::proofs::Promises::annotation, crate::proofs::Promises::no_annotation, crate::proofs::Promises::by_word))]
+#[tactic(auto, using(crate::proofs::Promises::annotation, crate::proofs::Promises::no_annotation, crate::proofs::Promises::by_terminal))]
 fn stopped(alloc: Global, tokens: &mut TokenStream<'_>, at: usize) -> ParseRefusal
     requires { read_whole tokens.old language_limits.levels 0 ≡ Err (Syntax at) }
     ensures { Refused tokens.old result }
 {
     let place = tokens.place(at);
-    match tokens.word(at) {
-        Word::At => match could_begin(alloc, tokens, at) {
+    match tokens.terminal(at) {
+        Terminal::At => match could_begin(alloc, tokens, at) {
             Ok(true) => ParseRefusal::NotInProfile(place, Feature::Annotation),
             Ok(false) => ParseRefusal::Syntax(place),
             Err(_) => ParseRefusal::OutOfMemory,
         },
-        _ => told(tokens, Refusal::Syntax(at)),
+        _ => located(tokens, Refusal::Syntax(at)),
     }
 }
 
@@ -69,6 +69,6 @@ pub fn parse(alloc: Global, text: &str, tokens: &[Token]) -> Result<Program, Par
     match whole(alloc, &tokens) {
         Ok(program) => Ok(program),
         Err(Refusal::Syntax(at)) => Err(stopped(alloc, &mut tokens, at)),
-        Err(refusal) => Err(told(&tokens, refusal)),
+        Err(refusal) => Err(located(&tokens, refusal)),
     }
 }

@@ -13,14 +13,14 @@ use crate::bodies::statement_form;
 use crate::definitions::{definition, gate_item};
 use crate::items::{include, input, output, qubit_item, register_item};
 use crate::lookahead::begins_item;
-use qt_expr::sign::{next_is, sign};
+use qt_expr::one_token::{exactly, next_is};
 use qt_grammar::refusal::Refusal;
+use qt_terminals::stream::TokenStream;
+use qt_terminals::terminal::Terminal;
 use qt_tree::label::Label;
 use qt_tree::place::Place;
 use qt_tree::program::{Item, Program, Version, VersionNumber};
 use qt_tree::statement::Statement;
-use qt_words::stream::TokenStream;
-use qt_words::word::Word;
 use sqlite_items::Items;
 use std::alloc::Global;
 
@@ -51,15 +51,15 @@ fn global(
     ensures { Says (read_global tokens.now levels at) result }
 {
     let place = tokens.place(at);
-    match tokens.word(at) {
-        Word::Include => include(alloc, tokens, at, place),
-        Word::Input => input(alloc, tokens, levels, at, place),
-        Word::Output => output(alloc, tokens, levels, at, place),
-        Word::Qubit => qubit_item(alloc, tokens, levels, at, place),
-        Word::Qreg => register_item(alloc, tokens, levels, at, place),
-        Word::Array => array_item(alloc, tokens, levels, at, place),
-        Word::Gate => gate_item(alloc, tokens, levels, at, place),
-        Word::Def => definition(alloc, tokens, levels, at, place),
+    match tokens.terminal(at) {
+        Terminal::Include => include(alloc, tokens, at, place),
+        Terminal::Input => input(alloc, tokens, levels, at, place),
+        Terminal::Output => output(alloc, tokens, levels, at, place),
+        Terminal::Qubit => qubit_item(alloc, tokens, levels, at, place),
+        Terminal::Qreg => register_item(alloc, tokens, levels, at, place),
+        Terminal::Array => array_item(alloc, tokens, levels, at, place),
+        Terminal::Gate => gate_item(alloc, tokens, levels, at, place),
+        Terminal::Def => definition(alloc, tokens, levels, at, place),
         _ => statement_item(alloc, tokens, levels, at, place),
     }
 }
@@ -107,8 +107,8 @@ fn more_items(
     Ok((all, at))
 }
 
-/// `Integer | Decimal`, behind the word of a version.
-#[tactic(auto, unfolding(crate::specs::Parser::read_version_number, qt_expr::specs::Parser::read_sign))]
+/// `Integer | Decimal`, behind the terminal of a version.
+#[tactic(auto, unfolding(crate::specs::Parser::read_version_number, qt_expr::specs::Parser::read_exactly))]
 fn version_number(
     alloc: Global,
     tokens: &TokenStream<'_>,
@@ -116,26 +116,26 @@ fn version_number(
 ) -> Result<(VersionNumber, usize), Refusal>
     ensures { Says (read_version_number tokens.now at) result }
 {
-    if next_is(tokens, at, Word::Integer) {
+    if next_is(tokens, at, Terminal::Integer) {
         let value = tokens.integer(at);
-        let at = sign(tokens, at, Word::Integer)?;
+        let at = exactly(tokens, at, Terminal::Integer)?;
         return Ok((VersionNumber::Integer { value }, at));
     }
     let number = at;
-    let at = sign(tokens, at, Word::Decimal)?;
+    let at = exactly(tokens, at, Terminal::Decimal)?;
     let text = Label::new(alloc, tokens.spelling(number))?;
     Ok((VersionNumber::Decimal { text }, at))
 }
 
 /// `version = "OPENQASM" ( Integer | Decimal ) ";"`
-#[tactic(auto, unfolding(crate::specs::Parser::read_version, crate::specs::Parser::read_version_number, qt_expr::specs::Parser::read_sign))]
+#[tactic(auto, unfolding(crate::specs::Parser::read_version, crate::specs::Parser::read_version_number, qt_expr::specs::Parser::read_exactly))]
 fn version(alloc: Global, tokens: &TokenStream<'_>, at: usize) -> Result<(Version, usize), Refusal>
     ensures { Says (read_version tokens.now at) result }
 {
     let place = tokens.place(at);
-    let at = sign(tokens, at, Word::OpenQasm)?;
+    let at = exactly(tokens, at, Terminal::OpenQasm)?;
     let (number, at) = version_number(alloc, tokens, at)?;
-    let at = sign(tokens, at, Word::Semicolon)?;
+    let at = exactly(tokens, at, Terminal::Semicolon)?;
     Ok((Version { place, number }, at))
 }
 
@@ -148,7 +148,7 @@ fn any_version(
 ) -> Result<(Option<Version>, usize), Refusal>
     ensures { Says (read_any_version tokens.now at) result }
 {
-    if !next_is(tokens, at, Word::OpenQasm) {
+    if !next_is(tokens, at, Terminal::OpenQasm) {
         return Ok((None, at));
     }
     let (version, at) = version(alloc, tokens, at)?;
@@ -165,7 +165,7 @@ pub fn whole(alloc: Global, tokens: &TokenStream<'_>) -> Result<Program, Refusal
 {
     let (version, at) = any_version(alloc, tokens, 0)?;
     let (items, at) = items(alloc, tokens, LEVELS, at)?;
-    if !next_is(tokens, at, Word::End) {
+    if !next_is(tokens, at, Terminal::End) {
         return Err(Refusal::Syntax(at));
     }
     let end = tokens.place(at);

@@ -1,23 +1,23 @@
-//! Statements of one line that begin with a word of their own.
+//! Statements of one line that begin with a terminal of their own.
 
 ghost use Rattle.std.specs.Prelude.{◌≡◌};
-ghost use Rattle.qt_words.specs.declared.word.Word.TheVariants as w;
+ghost use Rattle.qt_terminals.specs.declared.terminal.Terminal.TheVariants as w;
 ghost use Rattle.qt_tree.specs.declared.statement.StatementForm.TheVariants as s;
 ghost use Rattle.qt_grammar.specs.Outcome.{Says};
-ghost use Rattle.qt_parse.specs.Parser.{read_declaration, read_optional_value, read_bit_register, read_optional_size, read_constant, read_alias, read_gate_statement, read_unnamed_call, read_measured_to, read_measurement, read_reset, read_barrier, read_word_alone, read_return, read_optional_right};
+ghost use Rattle.qt_parse.specs.Parser.{read_declaration, read_optional_value, read_bit_register, read_optional_size, read_constant, read_alias, read_gate_statement, read_unnamed_call, read_measured_to, read_measurement, read_reset, read_barrier, read_keyword_alone, read_return, read_optional_right};
 
 use crate::calls::{begins_modifier, modified_call, phase_call};
 use crate::lookahead::begins_right;
 use crate::operands::{any_operands, first_value, measured, operand, operands, right, target};
 use qt_expr::expression::{expression, scalar, size};
 use qt_expr::nesting::Nesting;
-use qt_expr::pieces::{ended, together};
-use qt_expr::sign::{label, next_is, sign};
+use qt_expr::one_token::{exactly, label, next_is};
+use qt_expr::pieces::{ended, paired};
 use qt_grammar::refusal::Refusal;
+use qt_terminals::stream::TokenStream;
+use qt_terminals::terminal::Terminal;
 use qt_tree::expression::Expr;
 use qt_tree::statement::{GateCall, Right, StatementForm, Target};
-use qt_words::stream::TokenStream;
-use qt_words::word::Word;
 use std::alloc::Global;
 
 /// `[ "=" right ]`
@@ -30,7 +30,7 @@ fn optional_value(
 ) -> Result<(Option<Right>, usize), Refusal>
     ensures { Says (read_optional_value tokens.now levels at) result }
 {
-    if !next_is(tokens, at, Word::Assign) {
+    if !next_is(tokens, at, Terminal::Assign) {
         return Ok((None, at));
     }
     let (value, at) = first_value(alloc, tokens, levels, at)?;
@@ -38,7 +38,7 @@ fn optional_value(
 }
 
 /// `scalar Name [ "=" right ] ";"`
-#[tactic(auto, unfolding(crate::specs::Parser::read_declaration, crate::specs::Parser::read_optional_value, qt_expr::specs::Parser::read_scalar, qt_expr::specs::Parser::read_label, qt_expr::specs::Parser::read_sign))]
+#[tactic(auto, unfolding(crate::specs::Parser::read_declaration, crate::specs::Parser::read_optional_value, qt_expr::specs::Parser::read_scalar, qt_expr::specs::Parser::read_label, qt_expr::specs::Parser::read_exactly))]
 pub fn declaration(
     alloc: Global,
     tokens: &TokenStream<'_>,
@@ -56,9 +56,9 @@ pub fn declaration(
         },
         at,
     )?;
-    let (declared, at) = together(scalar, label(alloc, tokens, at))?;
-    let (parts, at) = together(declared, optional_value(alloc, tokens, levels, at))?;
-    let (((scalar, name), value), at) = ended(tokens, parts, at, Word::Semicolon)?;
+    let (declared, at) = paired(scalar, label(alloc, tokens, at))?;
+    let (parts, at) = paired(declared, optional_value(alloc, tokens, levels, at))?;
+    let (((scalar, name), value), at) = ended(tokens, parts, at, Terminal::Semicolon)?;
     let form = StatementForm::Declaration {
         scalar,
         name,
@@ -77,7 +77,7 @@ pub fn optional_size(
 ) -> Result<(Option<Expr>, usize), Refusal>
     ensures { Says (read_optional_size tokens.now levels at) result }
 {
-    if !next_is(tokens, at, Word::LeftBracket) {
+    if !next_is(tokens, at, Terminal::LeftBracket) {
         return Ok((None, at));
     }
     let (size, at) = size(
@@ -93,7 +93,7 @@ pub fn optional_size(
 }
 
 /// `"creg" Name [ "[" expr "]" ] ";"`
-#[tactic(auto, unfolding(crate::specs::Parser::read_bit_register, crate::specs::Parser::read_optional_size, qt_expr::specs::Parser::read_label, qt_expr::specs::Parser::read_sign))]
+#[tactic(auto, unfolding(crate::specs::Parser::read_bit_register, crate::specs::Parser::read_optional_size, qt_expr::specs::Parser::read_label, qt_expr::specs::Parser::read_exactly))]
 pub fn bit_register(
     alloc: Global,
     tokens: &TokenStream<'_>,
@@ -102,15 +102,15 @@ pub fn bit_register(
 ) -> Result<(StatementForm, usize), Refusal>
     ensures { Says (read_bit_register tokens.now levels at) result }
 {
-    let at = sign(tokens, at, Word::Creg)?;
+    let at = exactly(tokens, at, Terminal::Creg)?;
     let (name, at) = label(alloc, tokens, at)?;
-    let (parts, at) = together(name, optional_size(alloc, tokens, levels, at))?;
-    let ((name, size), at) = ended(tokens, parts, at, Word::Semicolon)?;
+    let (parts, at) = paired(name, optional_size(alloc, tokens, levels, at))?;
+    let ((name, size), at) = ended(tokens, parts, at, Terminal::Semicolon)?;
     Ok((StatementForm::BitRegister { name, size }, at))
 }
 
 /// `"const" scalar Name "=" expr ";"`
-#[tactic(auto, unfolding(crate::specs::Parser::read_constant, qt_expr::specs::Parser::read_scalar, qt_expr::specs::Parser::read_label, qt_expr::specs::Parser::read_expression, qt_expr::specs::Parser::read_sign))]
+#[tactic(auto, unfolding(crate::specs::Parser::read_constant, qt_expr::specs::Parser::read_scalar, qt_expr::specs::Parser::read_label, qt_expr::specs::Parser::read_expression, qt_expr::specs::Parser::read_exactly))]
 pub fn constant(
     alloc: Global,
     tokens: &TokenStream<'_>,
@@ -119,7 +119,7 @@ pub fn constant(
 ) -> Result<(StatementForm, usize), Refusal>
     ensures { Says (read_constant tokens.now levels at) result }
 {
-    let at = sign(tokens, at, Word::Const)?;
+    let at = exactly(tokens, at, Terminal::Const)?;
     let (scalar, at) = scalar(
         alloc,
         tokens,
@@ -129,8 +129,8 @@ pub fn constant(
         },
         at,
     )?;
-    let (declared, at) = together(scalar, label(alloc, tokens, at))?;
-    let (declared, at) = ended(tokens, declared, at, Word::Assign)?;
+    let (declared, at) = paired(scalar, label(alloc, tokens, at))?;
+    let (declared, at) = ended(tokens, declared, at, Terminal::Assign)?;
     let value = expression(
         alloc,
         tokens,
@@ -140,8 +140,8 @@ pub fn constant(
         },
         at,
     );
-    let (parts, at) = together(declared, value)?;
-    let (((scalar, name), value), at) = ended(tokens, parts, at, Word::Semicolon)?;
+    let (parts, at) = paired(declared, value)?;
+    let (((scalar, name), value), at) = ended(tokens, parts, at, Terminal::Semicolon)?;
     let form = StatementForm::Constant {
         scalar,
         name,
@@ -151,7 +151,7 @@ pub fn constant(
 }
 
 /// `"let" Name "=" operand { "++" operand } ";"`
-#[tactic(auto, unfolding(crate::specs::Parser::read_alias, crate::specs::Parser::read_operands, qt_expr::specs::Parser::read_label, qt_expr::specs::Parser::read_sign))]
+#[tactic(auto, unfolding(crate::specs::Parser::read_alias, crate::specs::Parser::read_operands, qt_expr::specs::Parser::read_label, qt_expr::specs::Parser::read_exactly))]
 pub fn alias(
     alloc: Global,
     tokens: &TokenStream<'_>,
@@ -160,11 +160,11 @@ pub fn alias(
 ) -> Result<(StatementForm, usize), Refusal>
     ensures { Says (read_alias tokens.now levels at) result }
 {
-    let at = sign(tokens, at, Word::Let)?;
+    let at = exactly(tokens, at, Terminal::Let)?;
     let (name, at) = label(alloc, tokens, at)?;
-    let at = sign(tokens, at, Word::Assign)?;
-    let (parts, at) = operands(alloc, tokens, levels, at, Word::PlusPlus)?;
-    let at = sign(tokens, at, Word::Semicolon)?;
+    let at = exactly(tokens, at, Terminal::Assign)?;
+    let (parts, at) = operands(alloc, tokens, levels, at, Terminal::PlusPlus)?;
+    let at = exactly(tokens, at, Terminal::Semicolon)?;
     Ok((StatementForm::Alias { name, parts }, at))
 }
 
@@ -186,7 +186,7 @@ fn unnamed_call(
 }
 
 /// A statement that is such a gate call.
-#[tactic(auto, unfolding(crate::specs::Parser::read_gate_statement, crate::specs::Parser::read_unnamed_call, qt_expr::specs::Parser::read_sign))]
+#[tactic(auto, unfolding(crate::specs::Parser::read_gate_statement, crate::specs::Parser::read_unnamed_call, qt_expr::specs::Parser::read_exactly))]
 pub fn gate_statement(
     alloc: Global,
     tokens: &TokenStream<'_>,
@@ -196,12 +196,12 @@ pub fn gate_statement(
     ensures { Says (read_gate_statement tokens.now levels at) result }
 {
     let (call, at) = unnamed_call(alloc, tokens, levels, at)?;
-    let (call, at) = ended(tokens, call, at, Word::Semicolon)?;
+    let (call, at) = ended(tokens, call, at, Terminal::Semicolon)?;
     Ok((StatementForm::Gate { call }, at))
 }
 
 /// `[ "->" target ]`
-#[tactic(auto, unfolding(crate::specs::Parser::read_measured_to, crate::specs::Parser::read_target, qt_expr::specs::Parser::read_sign))]
+#[tactic(auto, unfolding(crate::specs::Parser::read_measured_to, crate::specs::Parser::read_target, qt_expr::specs::Parser::read_exactly))]
 fn measured_to(
     alloc: Global,
     tokens: &TokenStream<'_>,
@@ -210,16 +210,16 @@ fn measured_to(
 ) -> Result<(Option<Target>, usize), Refusal>
     ensures { Says (read_measured_to tokens.now levels at) result }
 {
-    if !next_is(tokens, at, Word::Arrow) {
+    if !next_is(tokens, at, Terminal::Arrow) {
         return Ok((None, at));
     }
-    let at = sign(tokens, at, Word::Arrow)?;
+    let at = exactly(tokens, at, Terminal::Arrow)?;
     let (target, at) = target(alloc, tokens, levels, at)?;
     Ok((Some(target), at))
 }
 
 /// `"measure" operand [ "->" target ] ";"`
-#[tactic(auto, unfolding(crate::specs::Parser::read_measurement, crate::specs::Parser::read_measured, crate::specs::Parser::read_measured_to, qt_expr::specs::Parser::read_sign))]
+#[tactic(auto, unfolding(crate::specs::Parser::read_measurement, crate::specs::Parser::read_measured, crate::specs::Parser::read_measured_to, qt_expr::specs::Parser::read_exactly))]
 pub fn measurement(
     alloc: Global,
     tokens: &TokenStream<'_>,
@@ -229,13 +229,13 @@ pub fn measurement(
     ensures { Says (read_measurement tokens.now levels at) result }
 {
     let (qubits, at) = measured(alloc, tokens, levels, at)?;
-    let (parts, at) = together(qubits, measured_to(alloc, tokens, levels, at))?;
-    let ((qubits, target), at) = ended(tokens, parts, at, Word::Semicolon)?;
+    let (parts, at) = paired(qubits, measured_to(alloc, tokens, levels, at))?;
+    let ((qubits, target), at) = ended(tokens, parts, at, Terminal::Semicolon)?;
     Ok((StatementForm::Measure { qubits, target }, at))
 }
 
 /// `"reset" operand ";"`
-#[tactic(auto, unfolding(crate::specs::Parser::read_reset, crate::specs::Parser::read_operand, qt_expr::specs::Parser::read_sign))]
+#[tactic(auto, unfolding(crate::specs::Parser::read_reset, crate::specs::Parser::read_operand, qt_expr::specs::Parser::read_exactly))]
 pub fn reset(
     alloc: Global,
     tokens: &TokenStream<'_>,
@@ -244,14 +244,14 @@ pub fn reset(
 ) -> Result<(StatementForm, usize), Refusal>
     ensures { Says (read_reset tokens.now levels at) result }
 {
-    let at = sign(tokens, at, Word::Reset)?;
+    let at = exactly(tokens, at, Terminal::Reset)?;
     let (qubits, at) = operand(alloc, tokens, levels, at)?;
-    let (qubits, at) = ended(tokens, qubits, at, Word::Semicolon)?;
+    let (qubits, at) = ended(tokens, qubits, at, Terminal::Semicolon)?;
     Ok((StatementForm::Reset { qubits }, at))
 }
 
 /// `"barrier" [ operands ] ";"`
-#[tactic(auto, unfolding(crate::specs::Parser::read_barrier, crate::specs::Parser::read_any_operands, qt_expr::specs::Parser::read_sign))]
+#[tactic(auto, unfolding(crate::specs::Parser::read_barrier, crate::specs::Parser::read_any_operands, qt_expr::specs::Parser::read_exactly))]
 pub fn barrier(
     alloc: Global,
     tokens: &TokenStream<'_>,
@@ -260,9 +260,9 @@ pub fn barrier(
 ) -> Result<(StatementForm, usize), Refusal>
     ensures { Says (read_barrier tokens.now levels at) result }
 {
-    let at = sign(tokens, at, Word::Barrier)?;
+    let at = exactly(tokens, at, Terminal::Barrier)?;
     let (qubits, at) = any_operands(alloc, tokens, levels, at)?;
-    let at = sign(tokens, at, Word::Semicolon)?;
+    let at = exactly(tokens, at, Terminal::Semicolon)?;
     Ok((StatementForm::Barrier { qubits }, at))
 }
 
@@ -284,7 +284,7 @@ fn optional_right(
 }
 
 /// `"return" [ right ] ";"`
-#[tactic(auto, unfolding(crate::specs::Parser::read_return, crate::specs::Parser::read_optional_right, qt_expr::specs::Parser::read_sign))]
+#[tactic(auto, unfolding(crate::specs::Parser::read_return, crate::specs::Parser::read_optional_right, qt_expr::specs::Parser::read_exactly))]
 pub fn return_statement(
     alloc: Global,
     tokens: &TokenStream<'_>,
@@ -293,44 +293,44 @@ pub fn return_statement(
 ) -> Result<(StatementForm, usize), Refusal>
     ensures { Says (read_return tokens.now levels at) result }
 {
-    let at = sign(tokens, at, Word::Return)?;
+    let at = exactly(tokens, at, Terminal::Return)?;
     let (value, at) = optional_right(alloc, tokens, levels, at)?;
-    let (value, at) = ended(tokens, value, at, Word::Semicolon)?;
+    let (value, at) = ended(tokens, value, at, Terminal::Semicolon)?;
     Ok((StatementForm::Return { value }, at))
 }
 
 /// `"break" ";"`
-#[tactic(auto, unfolding(crate::specs::Parser::read_word_alone, qt_expr::specs::Parser::read_sign))]
+#[tactic(auto, unfolding(crate::specs::Parser::read_keyword_alone, qt_expr::specs::Parser::read_exactly))]
 pub fn break_statement(
     tokens: &TokenStream<'_>,
     at: usize,
 ) -> Result<(StatementForm, usize), Refusal>
-    ensures { Says (read_word_alone tokens.now w.Break s.Break at) result }
+    ensures { Says (read_keyword_alone tokens.now w.Break s.Break at) result }
 {
-    let at = sign(tokens, at, Word::Break)?;
-    let at = sign(tokens, at, Word::Semicolon)?;
+    let at = exactly(tokens, at, Terminal::Break)?;
+    let at = exactly(tokens, at, Terminal::Semicolon)?;
     Ok((StatementForm::Break, at))
 }
 
 /// `"continue" ";"`
-#[tactic(auto, unfolding(crate::specs::Parser::read_word_alone, qt_expr::specs::Parser::read_sign))]
+#[tactic(auto, unfolding(crate::specs::Parser::read_keyword_alone, qt_expr::specs::Parser::read_exactly))]
 pub fn continue_statement(
     tokens: &TokenStream<'_>,
     at: usize,
 ) -> Result<(StatementForm, usize), Refusal>
-    ensures { Says (read_word_alone tokens.now w.Continue s.Continue at) result }
+    ensures { Says (read_keyword_alone tokens.now w.Continue s.Continue at) result }
 {
-    let at = sign(tokens, at, Word::Continue)?;
-    let at = sign(tokens, at, Word::Semicolon)?;
+    let at = exactly(tokens, at, Terminal::Continue)?;
+    let at = exactly(tokens, at, Terminal::Semicolon)?;
     Ok((StatementForm::Continue, at))
 }
 
 /// `"end" ";"`
-#[tactic(auto, unfolding(crate::specs::Parser::read_word_alone, qt_expr::specs::Parser::read_sign))]
+#[tactic(auto, unfolding(crate::specs::Parser::read_keyword_alone, qt_expr::specs::Parser::read_exactly))]
 pub fn end_statement(tokens: &TokenStream<'_>, at: usize) -> Result<(StatementForm, usize), Refusal>
-    ensures { Says (read_word_alone tokens.now w.EndWord s.End at) result }
+    ensures { Says (read_keyword_alone tokens.now w.EndWord s.End at) result }
 {
-    let at = sign(tokens, at, Word::EndWord)?;
-    let at = sign(tokens, at, Word::Semicolon)?;
+    let at = exactly(tokens, at, Terminal::EndWord)?;
+    let at = exactly(tokens, at, Terminal::Semicolon)?;
     Ok((StatementForm::End, at))
 }

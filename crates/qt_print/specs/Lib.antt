@@ -1,6 +1,6 @@
 pub mod Spacing
 pub mod Literals
-pub mod Words
+pub mod Lexemes
 pub mod Expressions
 pub mod Statements
 pub mod Programs

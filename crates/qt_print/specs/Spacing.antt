@@ -1,4 +1,4 @@
--- The canonical layout of this product: where the one space stands between two words of a line. The OpenQASM 3.0 live
+-- The canonical layout of this product: where the one space stands between two lexemes of a line. The OpenQASM 3.0 live
 -- specification, "Comments", gives no meaning to white space between tokens, so a layout is free to choose it.
 --
 -- One space stands in these places, and no other space is printed within a line:
@@ -55,6 +55,6 @@ has_space_behind ClosingParenthesis following = is_name following
 has_space_behind BodyEnd following = is_else following
 has_space_behind _ _ = false
 
--- does the space stand between two neighbouring words of a line?
+-- does the space stand between two neighbouring lexemes of a line?
 abbrev pub has_space : Role → Role → Bool
 has_space last following = is_spaced last || (is_spaced following || (is_body_start following || has_space_behind last following))

@@ -1,51 +1,51 @@
 //! Expressions, types, indexes and ranges.
 
 ghost use Rattle.std.specs.Prelude.{◌≡◌, map, OnOk};
-ghost use Rattle.qt_print.specs.Words as words;
+ghost use Rattle.qt_print.specs.Lexemes as lexemes;
 ghost use Rattle.qt_print.specs.Expressions as spec;
 ghost use Rattle.qt_print.specs.Page.{sheet_of, puts};
 
 use crate::page::Page;
 use crate::role::Role;
-use qt_tree::expression::{BinaryOp, Expr, Index, Range, Scalar, UnaryOperator};
+use qt_tree::expression::{Expr, Index, InfixOperator, PrefixOperator, Range, Scalar};
 use sqlite_items::{Boxed, Items};
 use std::alloc::AllocError;
 
 /// How a binary operator is written.
-pub(crate) fn operator_text(operator: BinaryOp) -> &'static str
+pub(crate) fn operator_text(operator: InfixOperator) -> &'static str
     ensures { result.now ≡ spec.operator_text operator }
 {
     match operator {
-        BinaryOp::LogicalOr => "||",
-        BinaryOp::LogicalAnd => "&&",
-        BinaryOp::Or => "|",
-        BinaryOp::Xor => "^",
-        BinaryOp::And => "&",
-        BinaryOp::Eq => "==",
-        BinaryOp::Ne => "!=",
-        BinaryOp::Lt => "<",
-        BinaryOp::Le => "<=",
-        BinaryOp::Gt => ">",
-        BinaryOp::Ge => ">=",
-        BinaryOp::Shl => "<<",
-        BinaryOp::Shr => ">>",
-        BinaryOp::Add => "+",
-        BinaryOp::Sub => "-",
-        BinaryOp::Mul => "*",
-        BinaryOp::Div => "/",
-        BinaryOp::Rem => "%",
-        BinaryOp::Pow => "**",
+        InfixOperator::LogicalOr => "||",
+        InfixOperator::LogicalAnd => "&&",
+        InfixOperator::Or => "|",
+        InfixOperator::Xor => "^",
+        InfixOperator::And => "&",
+        InfixOperator::Eq => "==",
+        InfixOperator::Ne => "!=",
+        InfixOperator::Lt => "<",
+        InfixOperator::Le => "<=",
+        InfixOperator::Gt => ">",
+        InfixOperator::Ge => ">=",
+        InfixOperator::Shl => "<<",
+        InfixOperator::Shr => ">>",
+        InfixOperator::Add => "+",
+        InfixOperator::Sub => "-",
+        InfixOperator::Mul => "*",
+        InfixOperator::Div => "/",
+        InfixOperator::Rem => "%",
+        InfixOperator::Pow => "**",
     }
 }
 
 /// How a unary operator is written.
-fn sign_text(operator: UnaryOperator) -> &'static str
+fn sign_text(operator: PrefixOperator) -> &'static str
     ensures { result.now ≡ spec.sign_text operator }
 {
     match operator {
-        UnaryOperator::Not => "!",
-        UnaryOperator::Turn => "~",
-        UnaryOperator::Neg => "-",
+        PrefixOperator::Not => "!",
+        PrefixOperator::Turn => "~",
+        PrefixOperator::Neg => "-",
     }
 }
 
@@ -60,7 +60,7 @@ fn truth_text(value: bool) -> &'static str
 #[tactic(auto, using(crate::proofs::Equations::expressions))]
 #[cycle(expression)]
 pub(crate) fn put_expr(page: &mut Page, expr: &Expr) -> Result<(), AllocError>
-    ensures { OnOk result (sheet_of page.new ≡ puts (sheet_of page.old) (spec.expr_words expr.now)) }
+    ensures { OnOk result (sheet_of page.new ≡ puts (sheet_of page.old) (spec.expr_lexemes expr.now)) }
 {
     match expr {
         Expr::Whole { value } => page.put_number(*value),
@@ -108,7 +108,7 @@ pub(crate) fn put_expr(page: &mut Page, expr: &Expr) -> Result<(), AllocError>
 #[tactic(auto, using(crate::proofs::Puts::puts_both))]
 #[cycle(expression)]
 pub(crate) fn put_parenthesized(page: &mut Page, inner: &Expr) -> Result<(), AllocError>
-    ensures { OnOk result (sheet_of page.new ≡ puts (sheet_of page.old) (words.parenthesized (spec.expr_words inner.now))) }
+    ensures { OnOk result (sheet_of page.new ≡ puts (sheet_of page.old) (lexemes.parenthesized (spec.expr_lexemes inner.now))) }
 {
     page.put(Role::Opening, "(")?;
     put_expr(page, inner)?;
@@ -119,7 +119,7 @@ pub(crate) fn put_parenthesized(page: &mut Page, inner: &Expr) -> Result<(), All
 #[tactic(auto, using(crate::proofs::Puts::puts_both))]
 #[cycle(expression)]
 pub(crate) fn put_arguments(page: &mut Page, arguments: &[Expr]) -> Result<(), AllocError>
-    ensures { OnOk result (sheet_of page.new ≡ puts (sheet_of page.old) (words.parenthesized (spec.list_words arguments.now))) }
+    ensures { OnOk result (sheet_of page.new ≡ puts (sheet_of page.old) (lexemes.parenthesized (spec.list_lexemes arguments.now))) }
 {
     page.put(Role::Opening, "(")?;
     put_list(page, arguments)?;
@@ -129,7 +129,7 @@ pub(crate) fn put_arguments(page: &mut Page, arguments: &[Expr]) -> Result<(), A
 /// Expressions with commas between.
 #[cycle(expression)]
 pub(crate) fn put_list(page: &mut Page, all: &[Expr]) -> Result<(), AllocError>
-    ensures { OnOk result (sheet_of page.new ≡ puts (sheet_of page.old) (spec.list_words all.now)) }
+    ensures { OnOk result (sheet_of page.new ≡ puts (sheet_of page.old) (spec.list_lexemes all.now)) }
 {
     let mut first = true;
     for expr in all {
@@ -145,7 +145,7 @@ pub(crate) fn put_list(page: &mut Page, all: &[Expr]) -> Result<(), AllocError>
 /// The second part of `sizeof`.
 #[cycle(expression)]
 fn put_dimension(page: &mut Page, dimension: &Option<Boxed<Expr>>) -> Result<(), AllocError>
-    ensures { OnOk result (sheet_of page.new ≡ puts (sheet_of page.old) (spec.second_words dimension.now)) }
+    ensures { OnOk result (sheet_of page.new ≡ puts (sheet_of page.old) (spec.second_lexemes dimension.now)) }
 {
     match dimension {
         None => Ok(()),
@@ -159,7 +159,7 @@ fn put_dimension(page: &mut Page, dimension: &Option<Boxed<Expr>>) -> Result<(),
 /// The indexes of each pair of brackets.
 #[cycle(expression)]
 pub(crate) fn put_brackets(page: &mut Page, brackets: &[Items<Index>]) -> Result<(), AllocError>
-    ensures { OnOk result (sheet_of page.new ≡ puts (sheet_of page.old) (spec.brackets_words brackets.now)) }
+    ensures { OnOk result (sheet_of page.new ≡ puts (sheet_of page.old) (spec.brackets_lexemes brackets.now)) }
 {
     for indexes in brackets {
         put_bracket(page, indexes.as_slice())?;
@@ -171,7 +171,7 @@ pub(crate) fn put_brackets(page: &mut Page, brackets: &[Items<Index>]) -> Result
 #[tactic(auto, using(crate::proofs::Puts::puts_both))]
 #[cycle(expression)]
 fn put_bracket(page: &mut Page, indexes: &[Index]) -> Result<(), AllocError>
-    ensures { OnOk result (sheet_of page.new ≡ puts (sheet_of page.old) (spec.bracket_words indexes.now)) }
+    ensures { OnOk result (sheet_of page.new ≡ puts (sheet_of page.old) (spec.bracket_lexemes indexes.now)) }
 {
     page.put(Role::Opening, "[")?;
     put_indexes(page, indexes)?;
@@ -181,7 +181,7 @@ fn put_bracket(page: &mut Page, indexes: &[Index]) -> Result<(), AllocError>
 /// Indexes with commas between.
 #[cycle(expression)]
 fn put_indexes(page: &mut Page, indexes: &[Index]) -> Result<(), AllocError>
-    ensures { OnOk result (sheet_of page.new ≡ puts (sheet_of page.old) (words.separated words.comma (map spec.index_words indexes.now))) }
+    ensures { OnOk result (sheet_of page.new ≡ puts (sheet_of page.old) (lexemes.separated lexemes.comma (map spec.index_lexemes indexes.now))) }
 {
     let mut first = true;
     for index in indexes {
@@ -198,7 +198,7 @@ fn put_indexes(page: &mut Page, indexes: &[Index]) -> Result<(), AllocError>
 #[tactic(auto, using(crate::proofs::Equations::indexes))]
 #[cycle(expression)]
 pub(crate) fn put_index(page: &mut Page, index: &Index) -> Result<(), AllocError>
-    ensures { OnOk result (sheet_of page.new ≡ puts (sheet_of page.old) (spec.index_words index.now)) }
+    ensures { OnOk result (sheet_of page.new ≡ puts (sheet_of page.old) (spec.index_lexemes index.now)) }
 {
     match index {
         Index::At { place } => put_expr(page, place),
@@ -211,7 +211,7 @@ pub(crate) fn put_index(page: &mut Page, index: &Index) -> Result<(), AllocError
 #[tactic(auto, using(crate::proofs::Puts::puts_both))]
 #[cycle(expression)]
 pub(crate) fn put_set(page: &mut Page, members: &[Expr]) -> Result<(), AllocError>
-    ensures { OnOk result (sheet_of page.new ≡ puts (sheet_of page.old) (words.braced (spec.list_words members.now))) }
+    ensures { OnOk result (sheet_of page.new ≡ puts (sheet_of page.old) (lexemes.braced (spec.list_lexemes members.now))) }
 {
     page.put(Role::Opening, "{")?;
     put_list(page, members)?;
@@ -222,7 +222,7 @@ pub(crate) fn put_set(page: &mut Page, members: &[Expr]) -> Result<(), AllocErro
 #[tactic(auto, using(crate::proofs::Equations::ranges))]
 #[cycle(expression)]
 pub(crate) fn put_range(page: &mut Page, range: &Range) -> Result<(), AllocError>
-    ensures { OnOk result (sheet_of page.new ≡ puts (sheet_of page.old) (spec.range_words range.now)) }
+    ensures { OnOk result (sheet_of page.new ≡ puts (sheet_of page.old) (spec.range_lexemes range.now)) }
 {
     put_part(page, &range.start)?;
     page.put(Role::Colon, ":")?;
@@ -233,7 +233,7 @@ pub(crate) fn put_range(page: &mut Page, range: &Range) -> Result<(), AllocError
 /// The start or the end of a range, where it stands.
 #[cycle(expression)]
 fn put_part(page: &mut Page, part: &Option<Expr>) -> Result<(), AllocError>
-    ensures { OnOk result (sheet_of page.new ≡ puts (sheet_of page.old) (spec.end_words part.now)) }
+    ensures { OnOk result (sheet_of page.new ≡ puts (sheet_of page.old) (spec.end_lexemes part.now)) }
 {
     match part {
         None => Ok(()),
@@ -245,7 +245,7 @@ fn put_part(page: &mut Page, part: &Option<Expr>) -> Result<(), AllocError>
 #[tactic(auto, using(crate::proofs::Puts::puts_both))]
 #[cycle(expression)]
 fn put_step(page: &mut Page, step: &Option<Expr>) -> Result<(), AllocError>
-    ensures { OnOk result (sheet_of page.new ≡ puts (sheet_of page.old) (spec.step_words step.now)) }
+    ensures { OnOk result (sheet_of page.new ≡ puts (sheet_of page.old) (spec.step_lexemes step.now)) }
 {
     match step {
         None => Ok(()),
@@ -260,7 +260,7 @@ fn put_step(page: &mut Page, step: &Option<Expr>) -> Result<(), AllocError>
 #[tactic(auto, using(crate::proofs::Equations::scalars))]
 #[cycle(expression)]
 pub(crate) fn put_scalar(page: &mut Page, scalar: &Scalar) -> Result<(), AllocError>
-    ensures { OnOk result (sheet_of page.new ≡ puts (sheet_of page.old) (spec.scalar_words scalar.now)) }
+    ensures { OnOk result (sheet_of page.new ≡ puts (sheet_of page.old) (spec.scalar_lexemes scalar.now)) }
 {
     match scalar {
         Scalar::Bool => page.put(Role::Keyword, "bool"),
@@ -275,7 +275,7 @@ pub(crate) fn put_scalar(page: &mut Page, scalar: &Scalar) -> Result<(), AllocEr
 #[tactic(auto, using(crate::proofs::Puts::puts_both))]
 #[cycle(expression)]
 fn put_sized(page: &mut Page, keyword: &str, size: &Option<Boxed<Expr>>) -> Result<(), AllocError>
-    ensures { OnOk result (sheet_of page.new ≡ puts (sheet_of page.old) (spec.type_words keyword.now size.now)) }
+    ensures { OnOk result (sheet_of page.new ≡ puts (sheet_of page.old) (spec.type_lexemes keyword.now size.now)) }
 {
     page.put(Role::Keyword, keyword)?;
     match size {

@@ -1,16 +1,16 @@
-//! The page that words are put on, one by one.
+//! The page that lexemes are put on, one by one.
 
 ghost use Rattle.std.specs.Prelude.{◌≡◌, ◌++◌, OnOk};
 ghost use Rattle.std.specs.String.{string_bytes};
 ghost use Rattle.qt_print.specs.Text as layout;
-ghost use Rattle.qt_print.specs.Words as words;
+ghost use Rattle.qt_print.specs.Lexemes as lexemes;
 ghost use Rattle.qt_print.specs.Page as sheets;
 
 use crate::literal::{push_bits, push_number, push_quoted};
 use crate::role::{Role, has_space};
 use std::alloc::{AllocError, Global};
 
-/// A text as far as it is written, and the last word of its last line.
+/// A text as far as it is written, and the last lexeme of its last line.
 #[derive(Drop)]
 pub(crate) struct Page {
     text: String,
@@ -27,7 +27,7 @@ fn push_margin(text: &mut String, depth: usize) -> Result<(), AllocError>
     Ok(())
 }
 
-/// What stands before a word.
+/// What stands before a lexeme.
 fn push_gap(text: &mut String, last: Option<Role>, next: Role) -> Result<(), AllocError>
     ensures { OnOk result (string_bytes text.new ≡ string_bytes text.old ++ layout.gap last next) }
 {
@@ -63,9 +63,9 @@ impl Page {
         Ok(())
     }
 
-    /// Puts one more word on the line.
+    /// Puts one more lexeme on the line.
     pub(crate) fn put(&mut self, role: Role, text: &str) -> Result<(), AllocError>
-        ensures { OnOk result (sheets.sheet_of self.new ≡ sheets.put_on (sheets.sheet_of self.old) (words.word role text.now)) }
+        ensures { OnOk result (sheets.sheet_of self.new ≡ sheets.put_on (sheets.sheet_of self.old) (lexemes.lexeme role text.now)) }
     {
         push_gap(&mut self.text, self.last, role)?;
         self.text.push_str(text)?;
@@ -75,7 +75,7 @@ impl Page {
 
     /// Puts a whole number on the line.
     pub(crate) fn put_number(&mut self, value: u64) -> Result<(), AllocError>
-        ensures { OnOk result (sheets.sheet_of self.new ≡ sheets.put_on (sheets.sheet_of self.old) (words.integer value)) }
+        ensures { OnOk result (sheets.sheet_of self.new ≡ sheets.put_on (sheets.sheet_of self.old) (lexemes.integer value)) }
     {
         push_gap(&mut self.text, self.last, Role::Integer)?;
         push_number(&mut self.text, value)?;
@@ -85,7 +85,7 @@ impl Page {
 
     /// Puts a bit string of so many digits on the line.
     pub(crate) fn put_bits(&mut self, value: u64, length: u8) -> Result<(), AllocError>
-        ensures { OnOk result (sheets.sheet_of self.new ≡ sheets.put_on (sheets.sheet_of self.old) (words.bits value length)) }
+        ensures { OnOk result (sheets.sheet_of self.new ≡ sheets.put_on (sheets.sheet_of self.old) (lexemes.bits value length)) }
     {
         push_gap(&mut self.text, self.last, Role::Text)?;
         push_bits(&mut self.text, value, length)?;
@@ -95,7 +95,7 @@ impl Page {
 
     /// Puts a text in quotes on the line.
     pub(crate) fn put_quoted(&mut self, name: &str) -> Result<(), AllocError>
-        ensures { OnOk result (sheets.sheet_of self.new ≡ sheets.put_on (sheets.sheet_of self.old) (words.quotation name.now)) }
+        ensures { OnOk result (sheets.sheet_of self.new ≡ sheets.put_on (sheets.sheet_of self.old) (lexemes.quotation name.now)) }
     {
         push_gap(&mut self.text, self.last, Role::Text)?;
         push_quoted(&mut self.text, name)?;

@@ -2,7 +2,7 @@
 
 ghost use Rattle.std.specs.Prelude.{◌≡◌, map, IfOk, OnOk};
 ghost use Rattle.std.specs.String.{string_bytes};
-ghost use Rattle.qt_print.specs.Words as words;
+ghost use Rattle.qt_print.specs.Lexemes as lexemes;
 ghost use Rattle.qt_print.specs.Expressions as expressions;
 ghost use Rattle.qt_print.specs.Statements as statements;
 ghost use Rattle.qt_print.specs.Programs as spec;
@@ -55,7 +55,7 @@ fn put_version(page: &mut Page, version: &Option<Version>) -> Result<(), AllocEr
 
 /// What a version names.
 fn put_version_number(page: &mut Page, number: &VersionNumber) -> Result<(), AllocError>
-    ensures { OnOk result (sheet_of page.new ≡ pages.put_on (sheet_of page.old) (spec.number_word number.now)) }
+    ensures { OnOk result (sheet_of page.new ≡ pages.put_on (sheet_of page.old) (spec.number_lexeme number.now)) }
 {
     match number {
         VersionNumber::Integer { value } => page.put_number(*value),
@@ -117,7 +117,7 @@ fn put_typed(page: &mut Page, head: &str, scalar: &Scalar, name: &Label) -> Resu
 /// A qubit or a register of qubits, as it is declared or as a parameter.
 #[tactic(auto, using(crate::proofs::Puts::puts_both))]
 fn put_qubit(page: &mut Page, size: &Option<Expr>, name: &Label) -> Result<(), AllocError>
-    ensures { OnOk result (sheet_of page.new ≡ puts (sheet_of page.old) (spec.qubit_words size.now name.now)) }
+    ensures { OnOk result (sheet_of page.new ≡ puts (sheet_of page.old) (spec.qubit_lexemes size.now name.now)) }
 {
     page.put(Role::Keyword, "qubit")?;
     put_size(page, size)?;
@@ -127,7 +127,7 @@ fn put_qubit(page: &mut Page, size: &Option<Expr>, name: &Label) -> Result<(), A
 /// The declaration of a qubit or a register of qubits.
 #[tactic(auto, using(crate::proofs::Lines::sentence_put, crate::proofs::Puts::puts_both))]
 fn put_qubit_item(page: &mut Page, size: &Option<Expr>, name: &Label) -> Result<(), AllocError>
-    ensures { OnOk result (sheet_of page.new ≡ put_lines (sheet_of page.old) 0 (statements.sentence (spec.qubit_words size.now name.now))) }
+    ensures { OnOk result (sheet_of page.new ≡ put_lines (sheet_of page.old) 0 (statements.sentence (spec.qubit_lexemes size.now name.now))) }
 {
     page.begin(0)?;
     put_qubit(page, size, name)?;
@@ -146,7 +146,7 @@ fn put_qubit_register(page: &mut Page, name: &Label, size: &Option<Expr>) -> Res
 /// An array.
 #[tactic(auto, using(crate::proofs::Lines::sentence_put, crate::proofs::Puts::puts_both))]
 fn put_array(page: &mut Page, array: &ArrayItem) -> Result<(), AllocError>
-    ensures { OnOk result (sheet_of page.new ≡ put_lines (sheet_of page.old) 0 (statements.sentence (spec.array_words array.now))) }
+    ensures { OnOk result (sheet_of page.new ≡ put_lines (sheet_of page.old) 0 (statements.sentence (spec.array_lexemes array.now))) }
 {
     page.begin(0)?;
     page.put(Role::Keyword, "array")?;
@@ -161,7 +161,7 @@ fn put_array(page: &mut Page, array: &ArrayItem) -> Result<(), AllocError>
 
 /// The dimensions of an array, each behind a comma.
 fn put_dimensions(page: &mut Page, dimensions: &[Expr]) -> Result<(), AllocError>
-    ensures { OnOk result (sheet_of page.new ≡ puts (sheet_of page.old) (words.each_behind words.comma (map expressions.expr_words dimensions.now))) }
+    ensures { OnOk result (sheet_of page.new ≡ puts (sheet_of page.old) (lexemes.each_behind lexemes.comma (map expressions.expr_lexemes dimensions.now))) }
 {
     for dimension in dimensions {
         page.put(Role::Comma, ",")?;
@@ -173,7 +173,7 @@ fn put_dimensions(page: &mut Page, dimensions: &[Expr]) -> Result<(), AllocError
 /// The first values of an array, where they stand.
 #[tactic(auto, using(crate::proofs::Puts::puts_both))]
 fn put_values(page: &mut Page, values: &Option<Items<ListItem>>) -> Result<(), AllocError>
-    ensures { OnOk result (sheet_of page.new ≡ puts (sheet_of page.old) (words.optional spec.valued values.now)) }
+    ensures { OnOk result (sheet_of page.new ≡ puts (sheet_of page.old) (lexemes.optional spec.valued values.now)) }
 {
     match values {
         None => Ok(()),
@@ -188,7 +188,7 @@ fn put_values(page: &mut Page, values: &Option<Items<ListItem>>) -> Result<(), A
 #[tactic(auto, using(crate::proofs::Puts::puts_both))]
 #[cycle(list)]
 fn put_values_list(page: &mut Page, items: &[ListItem]) -> Result<(), AllocError>
-    ensures { OnOk result (sheet_of page.new ≡ puts (sheet_of page.old) (spec.values_words items.now)) }
+    ensures { OnOk result (sheet_of page.new ≡ puts (sheet_of page.old) (spec.values_lexemes items.now)) }
 {
     page.put(Role::Opening, "{")?;
     put_list_items(page, items)?;
@@ -198,7 +198,7 @@ fn put_values_list(page: &mut Page, items: &[ListItem]) -> Result<(), AllocError
 /// Values with commas between.
 #[cycle(list)]
 fn put_list_items(page: &mut Page, items: &[ListItem]) -> Result<(), AllocError>
-    ensures { OnOk result (sheet_of page.new ≡ puts (sheet_of page.old) (words.separated words.comma (map spec.item_words items.now))) }
+    ensures { OnOk result (sheet_of page.new ≡ puts (sheet_of page.old) (lexemes.separated lexemes.comma (map spec.item_lexemes items.now))) }
 {
     let mut first = true;
     for item in items {
@@ -215,7 +215,7 @@ fn put_list_items(page: &mut Page, items: &[ListItem]) -> Result<(), AllocError>
 #[tactic(auto, using(crate::proofs::Items::list_items))]
 #[cycle(list)]
 fn put_list_item(page: &mut Page, item: &ListItem) -> Result<(), AllocError>
-    ensures { OnOk result (sheet_of page.new ≡ puts (sheet_of page.old) (spec.item_words item.now)) }
+    ensures { OnOk result (sheet_of page.new ≡ puts (sheet_of page.old) (spec.item_lexemes item.now)) }
 {
     match item {
         ListItem::List { items } => put_values_list(page, items.as_slice()),
@@ -225,7 +225,7 @@ fn put_list_item(page: &mut Page, item: &ListItem) -> Result<(), AllocError>
 
 /// Names with commas between.
 fn put_names(page: &mut Page, names: &[Label]) -> Result<(), AllocError>
-    ensures { OnOk result (sheet_of page.new ≡ puts (sheet_of page.old) (spec.names_words names.now)) }
+    ensures { OnOk result (sheet_of page.new ≡ puts (sheet_of page.old) (spec.names_lexemes names.now)) }
 {
     let mut first = true;
     for name in names {
@@ -240,7 +240,7 @@ fn put_names(page: &mut Page, names: &[Label]) -> Result<(), AllocError>
 
 /// A name.
 fn put_name(page: &mut Page, name: &Label) -> Result<(), AllocError>
-    ensures { OnOk result (sheet_of page.new ≡ puts (sheet_of page.old) (spec.name_words name.now)) }
+    ensures { OnOk result (sheet_of page.new ≡ puts (sheet_of page.old) (spec.name_lexemes name.now)) }
 {
     page.put(Role::Name, name.text())
 }
@@ -272,7 +272,7 @@ fn put_gate_head(page: &mut Page, gate: &GateItem) -> Result<(), AllocError>
 /// The parameters of a gate in parentheses, where these stand.
 #[tactic(auto, using(crate::proofs::Puts::puts_both))]
 fn put_parameter_names(page: &mut Page, names: &Option<Items<Label>>) -> Result<(), AllocError>
-    ensures { OnOk result (sheet_of page.new ≡ puts (sheet_of page.old) (words.optional spec.parameters_words names.now)) }
+    ensures { OnOk result (sheet_of page.new ≡ puts (sheet_of page.old) (lexemes.optional spec.parameters_lexemes names.now)) }
 {
     match names {
         None => Ok(()),
@@ -309,7 +309,7 @@ fn put_gate_statement(page: &mut Page, statement: &GateStatement) -> Result<(), 
 /// A barrier in a gate's body.
 #[tactic(auto, using(crate::proofs::Puts::puts_both))]
 fn put_gate_barrier(page: &mut Page, qubits: &[Label]) -> Result<(), AllocError>
-    ensures { OnOk result (sheet_of page.new ≡ put_sentence (sheet_of page.old) (spec.gate_barrier_words qubits.now)) }
+    ensures { OnOk result (sheet_of page.new ≡ put_sentence (sheet_of page.old) (spec.gate_barrier_lexemes qubits.now)) }
 {
     page.put(Role::Keyword, "barrier")?;
     put_names(page, qubits)?;
@@ -342,7 +342,7 @@ fn put_definition_head(page: &mut Page, definition: &Definition) -> Result<(), A
 
 /// Parameters with commas between.
 fn put_parameters(page: &mut Page, parameters: &[Parameter]) -> Result<(), AllocError>
-    ensures { OnOk result (sheet_of page.new ≡ puts (sheet_of page.old) (words.separated words.comma (map spec.parameter_words parameters.now))) }
+    ensures { OnOk result (sheet_of page.new ≡ puts (sheet_of page.old) (lexemes.separated lexemes.comma (map spec.parameter_lexemes parameters.now))) }
 {
     let mut first = true;
     for parameter in parameters {
@@ -358,7 +358,7 @@ fn put_parameters(page: &mut Page, parameters: &[Parameter]) -> Result<(), Alloc
 /// A parameter.
 #[tactic(auto, using(crate::proofs::Puts::puts_both))]
 fn put_parameter(page: &mut Page, parameter: &Parameter) -> Result<(), AllocError>
-    ensures { OnOk result (sheet_of page.new ≡ puts (sheet_of page.old) (spec.parameter_words parameter.now)) }
+    ensures { OnOk result (sheet_of page.new ≡ puts (sheet_of page.old) (spec.parameter_lexemes parameter.now)) }
 {
     match parameter {
         Parameter::Classical { scalar, name } => {
@@ -371,7 +371,7 @@ fn put_parameter(page: &mut Page, parameter: &Parameter) -> Result<(), AllocErro
 
 /// `->` and the type of a result, where it stands.
 fn put_result(page: &mut Page, of: &Option<Scalar>) -> Result<(), AllocError>
-    ensures { OnOk result (sheet_of page.new ≡ puts (sheet_of page.old) (words.optional spec.result_words of.now)) }
+    ensures { OnOk result (sheet_of page.new ≡ puts (sheet_of page.old) (lexemes.optional spec.result_lexemes of.now)) }
 {
     match of {
         None => Ok(()),

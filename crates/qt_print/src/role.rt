@@ -1,9 +1,9 @@
-//! What words are to their neighbours on a line.
+//! What lexemes are to their neighbours on a line.
 
 ghost use Rattle.std.specs.Prelude.{◌≡◌};
 ghost use Rattle.qt_print.specs.Spacing as spacing;
 
-/// What a word of the text is, as far as the space beside it goes.
+/// What a lexeme of the text is, as far as the space beside it goes.
 #[derive(Clone, Copy, Debug, PartialEq, Eq)]
 pub enum Role {
     /// A name of the program.
@@ -91,7 +91,7 @@ fn has_space_behind(last: Role, next: Role) -> bool
     }
 }
 
-/// Does the one space stand between two neighbouring words of a line?
+/// Does the one space stand between two neighbouring lexemes of a line?
 pub(crate) fn has_space(last: Role, next: Role) -> bool
     ensures { result ≡ spacing.has_space last next }
 {

@@ -1,7 +1,7 @@
 //! Statements: one a line, and each body in braces.
 
 ghost use Rattle.std.specs.Prelude.{◌≡◌, ◌+◌, ◌++◌, codes, map, OnOk, IfOk};
-ghost use Rattle.qt_print.specs.Words as words;
+ghost use Rattle.qt_print.specs.Lexemes as lexemes;
 ghost use Rattle.qt_print.specs.Expressions as expressions;
 ghost use Rattle.qt_print.specs.Statements as spec;
 ghost use Rattle.qt_print.specs.Page as pages;
@@ -13,7 +13,7 @@ use crate::expression::{
 };
 use crate::page::Page;
 use crate::role::Role;
-use qt_tree::expression::{BinaryOp, Expr, Scalar};
+use qt_tree::expression::{Expr, InfixOperator, Scalar};
 use qt_tree::label::Label;
 use qt_tree::statement::{
     CalledGate, GateCall, Modifier, Operand, Right, Sequence, Statement, StatementForm, Target,
@@ -30,36 +30,36 @@ pub(crate) fn deeper(depth: usize) -> Result<usize, AllocError>
 }
 
 /// How a compound assignment is written.
-fn compound_text(operator: BinaryOp) -> &'static str
+fn compound_text(operator: InfixOperator) -> &'static str
     ensures { result.now ≡ expressions.operator_text operator ++ codes "=" }
 {
     match operator {
-        BinaryOp::LogicalOr => "||=",
-        BinaryOp::LogicalAnd => "&&=",
-        BinaryOp::Or => "|=",
-        BinaryOp::Xor => "^=",
-        BinaryOp::And => "&=",
-        BinaryOp::Eq => "===",
-        BinaryOp::Ne => "!==",
-        BinaryOp::Lt => "<=",
-        BinaryOp::Le => "<==",
-        BinaryOp::Gt => ">=",
-        BinaryOp::Ge => ">==",
-        BinaryOp::Shl => "<<=",
-        BinaryOp::Shr => ">>=",
-        BinaryOp::Add => "+=",
-        BinaryOp::Sub => "-=",
-        BinaryOp::Mul => "*=",
-        BinaryOp::Div => "/=",
-        BinaryOp::Rem => "%=",
-        BinaryOp::Pow => "**=",
+        InfixOperator::LogicalOr => "||=",
+        InfixOperator::LogicalAnd => "&&=",
+        InfixOperator::Or => "|=",
+        InfixOperator::Xor => "^=",
+        InfixOperator::And => "&=",
+        InfixOperator::Eq => "===",
+        InfixOperator::Ne => "!==",
+        InfixOperator::Lt => "<=",
+        InfixOperator::Le => "<==",
+        InfixOperator::Gt => ">=",
+        InfixOperator::Ge => ">==",
+        InfixOperator::Shl => "<<=",
+        InfixOperator::Shr => ">>=",
+        InfixOperator::Add => "+=",
+        InfixOperator::Sub => "-=",
+        InfixOperator::Mul => "*=",
+        InfixOperator::Div => "/=",
+        InfixOperator::Rem => "%=",
+        InfixOperator::Pow => "**=",
     }
 }
 
 /// A size in brackets, where it stands.
 #[tactic(auto, using(crate::proofs::Puts::puts_both))]
 pub(crate) fn put_size(page: &mut Page, size: &Option<Expr>) -> Result<(), AllocError>
-    ensures { OnOk result (sheet_of page.new ≡ puts (sheet_of page.old) (expressions.size_words size.now)) }
+    ensures { OnOk result (sheet_of page.new ≡ puts (sheet_of page.old) (expressions.size_lexemes size.now)) }
 {
     match size {
         None => Ok(()),
@@ -74,7 +74,7 @@ pub(crate) fn put_size(page: &mut Page, size: &Option<Expr>) -> Result<(), Alloc
 /// An operand.
 #[tactic(auto, using(crate::proofs::Puts::puts_both))]
 fn put_operand(page: &mut Page, operand: &Operand) -> Result<(), AllocError>
-    ensures { OnOk result (sheet_of page.new ≡ puts (sheet_of page.old) (spec.operand_words operand.now)) }
+    ensures { OnOk result (sheet_of page.new ≡ puts (sheet_of page.old) (spec.operand_lexemes operand.now)) }
 {
     page.put(Role::Name, operand.name.text())?;
     match &operand.index {
@@ -89,7 +89,7 @@ fn put_operand(page: &mut Page, operand: &Operand) -> Result<(), AllocError>
 
 /// Operands with commas between.
 fn put_operands(page: &mut Page, operands: &[Operand]) -> Result<(), AllocError>
-    ensures { OnOk result (sheet_of page.new ≡ puts (sheet_of page.old) (spec.operands_words operands.now)) }
+    ensures { OnOk result (sheet_of page.new ≡ puts (sheet_of page.old) (spec.operands_lexemes operands.now)) }
 {
     let mut first = true;
     for operand in operands {
@@ -104,7 +104,7 @@ fn put_operands(page: &mut Page, operands: &[Operand]) -> Result<(), AllocError>
 
 /// The parts of an alias, with `++` between.
 fn put_parts(page: &mut Page, parts: &[Operand]) -> Result<(), AllocError>
-    ensures { OnOk result (sheet_of page.new ≡ puts (sheet_of page.old) (spec.parts_words parts.now)) }
+    ensures { OnOk result (sheet_of page.new ≡ puts (sheet_of page.old) (spec.parts_lexemes parts.now)) }
 {
     let mut first = true;
     for part in parts {
@@ -119,7 +119,7 @@ fn put_parts(page: &mut Page, parts: &[Operand]) -> Result<(), AllocError>
 
 /// A target.
 fn put_target(page: &mut Page, target: &Target) -> Result<(), AllocError>
-    ensures { OnOk result (sheet_of page.new ≡ puts (sheet_of page.old) (spec.target_words target.now)) }
+    ensures { OnOk result (sheet_of page.new ≡ puts (sheet_of page.old) (spec.target_lexemes target.now)) }
 {
     page.put(Role::Name, target.name.text())?;
     put_brackets(page, target.brackets.as_slice())
@@ -127,7 +127,7 @@ fn put_target(page: &mut Page, target: &Target) -> Result<(), AllocError>
 
 /// A right side.
 fn put_right(page: &mut Page, right: &Right) -> Result<(), AllocError>
-    ensures { OnOk result (sheet_of page.new ≡ puts (sheet_of page.old) (spec.right_words right.now)) }
+    ensures { OnOk result (sheet_of page.new ≡ puts (sheet_of page.old) (spec.right_lexemes right.now)) }
 {
     match right {
         Right::Measure { qubits } => {
@@ -148,7 +148,7 @@ fn put_assigned(page: &mut Page, right: &Right) -> Result<(), AllocError>
 
 /// A count in parentheses, where it stands.
 fn put_count(page: &mut Page, count: &Option<Expr>) -> Result<(), AllocError>
-    ensures { OnOk result (sheet_of page.new ≡ puts (sheet_of page.old) (spec.count_words count.now)) }
+    ensures { OnOk result (sheet_of page.new ≡ puts (sheet_of page.old) (spec.count_lexemes count.now)) }
 {
     match count {
         None => Ok(()),
@@ -158,7 +158,7 @@ fn put_count(page: &mut Page, count: &Option<Expr>) -> Result<(), AllocError>
 
 /// A modifier.
 fn put_modifier(page: &mut Page, modifier: &Modifier) -> Result<(), AllocError>
-    ensures { OnOk result (sheet_of page.new ≡ puts (sheet_of page.old) (spec.modifier_words modifier.now)) }
+    ensures { OnOk result (sheet_of page.new ≡ puts (sheet_of page.old) (spec.modifier_lexemes modifier.now)) }
 {
     match modifier {
         Modifier::Inv => page.put(Role::Keyword, "inv"),
@@ -188,7 +188,7 @@ fn put_modifying(page: &mut Page, modifier: &Modifier) -> Result<(), AllocError>
 
 /// The modifiers of a call, each with its `@`.
 fn put_modifiers(page: &mut Page, modifiers: &[Modifier]) -> Result<(), AllocError>
-    ensures { OnOk result (sheet_of page.new ≡ puts (sheet_of page.old) (words.joined (map spec.modifying modifiers.now))) }
+    ensures { OnOk result (sheet_of page.new ≡ puts (sheet_of page.old) (lexemes.joined (map spec.modifying modifiers.now))) }
 {
     for modifier in modifiers {
         put_modifying(page, modifier)?;
@@ -198,7 +198,7 @@ fn put_modifiers(page: &mut Page, modifiers: &[Modifier]) -> Result<(), AllocErr
 
 /// What a gate call calls.
 fn put_gate(page: &mut Page, gate: &CalledGate) -> Result<(), AllocError>
-    ensures { OnOk result (sheet_of page.new ≡ puts (sheet_of page.old) (spec.gate_words gate.now)) }
+    ensures { OnOk result (sheet_of page.new ≡ puts (sheet_of page.old) (spec.gate_lexemes gate.now)) }
 {
     match gate {
         CalledGate::Named { name, arguments } => {
@@ -218,7 +218,7 @@ fn put_gate(page: &mut Page, gate: &CalledGate) -> Result<(), AllocError>
 /// A gate call.
 #[tactic(auto, using(crate::proofs::Puts::puts_both))]
 fn put_call(page: &mut Page, call: &GateCall) -> Result<(), AllocError>
-    ensures { OnOk result (sheet_of page.new ≡ puts (sheet_of page.old) (spec.call_words call.now)) }
+    ensures { OnOk result (sheet_of page.new ≡ puts (sheet_of page.old) (spec.call_lexemes call.now)) }
 {
     put_modifiers(page, call.modifiers.as_slice())?;
     put_gate(page, &call.gate)?;
@@ -228,7 +228,7 @@ fn put_call(page: &mut Page, call: &GateCall) -> Result<(), AllocError>
 /// What a `for` goes over.
 #[tactic(auto, using(crate::proofs::Puts::puts_both))]
 fn put_sequence(page: &mut Page, sequence: &Sequence) -> Result<(), AllocError>
-    ensures { OnOk result (sheet_of page.new ≡ puts (sheet_of page.old) (spec.sequence_words sequence.now)) }
+    ensures { OnOk result (sheet_of page.new ≡ puts (sheet_of page.old) (spec.sequence_lexemes sequence.now)) }
 {
     match sequence {
         Sequence::Range { range } => {
@@ -243,7 +243,7 @@ fn put_sequence(page: &mut Page, sequence: &Sequence) -> Result<(), AllocError>
 
 /// The end of a statement on a line of its own.
 pub(crate) fn finish(page: &mut Page) -> Result<(), AllocError>
-    ensures { OnOk result (sheet_of page.new ≡ pages.ended (pages.put_on (sheet_of page.old) words.semicolon)) }
+    ensures { OnOk result (sheet_of page.new ≡ pages.ended (pages.put_on (sheet_of page.old) lexemes.semicolon)) }
 {
     page.put(Role::Semicolon, ";")?;
     page.end()
@@ -252,7 +252,7 @@ pub(crate) fn finish(page: &mut Page) -> Result<(), AllocError>
 /// A statement that is one keyword.
 #[tactic(auto, using(crate::proofs::Puts::puts_both))]
 fn put_single(page: &mut Page, keyword: &str) -> Result<(), AllocError>
-    ensures { OnOk result (sheet_of page.new ≡ put_sentence (sheet_of page.old) (spec.single_words keyword.now)) }
+    ensures { OnOk result (sheet_of page.new ≡ put_sentence (sheet_of page.old) (spec.single_lexemes keyword.now)) }
 {
     page.put(Role::Keyword, keyword)?;
     finish(page)
@@ -266,7 +266,7 @@ fn put_declaration(
     name: &Label,
     value: &Option<Right>,
 ) -> Result<(), AllocError>
-    ensures { OnOk result (sheet_of page.new ≡ put_sentence (sheet_of page.old) (spec.declaration_words scalar.now name.now value.now)) }
+    ensures { OnOk result (sheet_of page.new ≡ put_sentence (sheet_of page.old) (spec.declaration_lexemes scalar.now name.now value.now)) }
 {
     put_scalar(page, scalar)?;
     page.put(Role::Name, name.text())?;
@@ -276,7 +276,7 @@ fn put_declaration(
 
 /// The first value of a variable, where it stands.
 fn put_first_value(page: &mut Page, value: &Option<Right>) -> Result<(), AllocError>
-    ensures { OnOk result (sheet_of page.new ≡ puts (sheet_of page.old) (words.optional spec.assigned value.now)) }
+    ensures { OnOk result (sheet_of page.new ≡ puts (sheet_of page.old) (lexemes.optional spec.assigned value.now)) }
 {
     match value {
         None => Ok(()),
@@ -292,7 +292,7 @@ pub(crate) fn put_register(
     name: &Label,
     size: &Option<Expr>,
 ) -> Result<(), AllocError>
-    ensures { OnOk result (sheet_of page.new ≡ put_sentence (sheet_of page.old) (spec.register_words keyword.now name.now size.now)) }
+    ensures { OnOk result (sheet_of page.new ≡ put_sentence (sheet_of page.old) (spec.register_lexemes keyword.now name.now size.now)) }
 {
     page.put(Role::Keyword, keyword)?;
     page.put(Role::Name, name.text())?;
@@ -308,7 +308,7 @@ fn put_constant(
     name: &Label,
     value: &Expr,
 ) -> Result<(), AllocError>
-    ensures { OnOk result (sheet_of page.new ≡ put_sentence (sheet_of page.old) (spec.constant_words scalar.now name.now value.now)) }
+    ensures { OnOk result (sheet_of page.new ≡ put_sentence (sheet_of page.old) (spec.constant_lexemes scalar.now name.now value.now)) }
 {
     page.put(Role::Keyword, "const")?;
     put_scalar(page, scalar)?;
@@ -321,7 +321,7 @@ fn put_constant(
 /// An alias.
 #[tactic(auto, using(crate::proofs::Puts::puts_both))]
 fn put_alias(page: &mut Page, name: &Label, parts: &[Operand]) -> Result<(), AllocError>
-    ensures { OnOk result (sheet_of page.new ≡ put_sentence (sheet_of page.old) (spec.alias_words name.now parts.now)) }
+    ensures { OnOk result (sheet_of page.new ≡ put_sentence (sheet_of page.old) (spec.alias_lexemes name.now parts.now)) }
 {
     page.put(Role::Keyword, "let")?;
     page.put(Role::Name, name.text())?;
@@ -333,7 +333,7 @@ fn put_alias(page: &mut Page, name: &Label, parts: &[Operand]) -> Result<(), All
 /// An assignment.
 #[tactic(auto, using(crate::proofs::Puts::puts_both))]
 fn put_assignment(page: &mut Page, target: &Target, value: &Right) -> Result<(), AllocError>
-    ensures { OnOk result (sheet_of page.new ≡ put_sentence (sheet_of page.old) (spec.assignment_words target.now value.now)) }
+    ensures { OnOk result (sheet_of page.new ≡ put_sentence (sheet_of page.old) (spec.assignment_lexemes target.now value.now)) }
 {
     put_target(page, target)?;
     put_assigned(page, value)?;
@@ -345,10 +345,10 @@ fn put_assignment(page: &mut Page, target: &Target, value: &Right) -> Result<(),
 fn put_compound(
     page: &mut Page,
     target: &Target,
-    operator: BinaryOp,
+    operator: InfixOperator,
     value: &Expr,
 ) -> Result<(), AllocError>
-    ensures { OnOk result (sheet_of page.new ≡ put_sentence (sheet_of page.old) (spec.compound_words target.now operator value.now)) }
+    ensures { OnOk result (sheet_of page.new ≡ put_sentence (sheet_of page.old) (spec.compound_lexemes target.now operator value.now)) }
 {
     put_target(page, target)?;
     page.put(Role::Operator, compound_text(operator))?;
@@ -363,7 +363,7 @@ fn put_measurement(
     qubits: &Operand,
     target: &Option<Target>,
 ) -> Result<(), AllocError>
-    ensures { OnOk result (sheet_of page.new ≡ put_sentence (sheet_of page.old) (spec.measurement_words qubits.now target.now)) }
+    ensures { OnOk result (sheet_of page.new ≡ put_sentence (sheet_of page.old) (spec.measurement_lexemes qubits.now target.now)) }
 {
     page.put(Role::Keyword, "measure")?;
     put_operand(page, qubits)?;
@@ -373,7 +373,7 @@ fn put_measurement(
 
 /// `->` and the target of a measurement, where it stands.
 fn put_stored(page: &mut Page, target: &Option<Target>) -> Result<(), AllocError>
-    ensures { OnOk result (sheet_of page.new ≡ puts (sheet_of page.old) (words.optional spec.stored target.now)) }
+    ensures { OnOk result (sheet_of page.new ≡ puts (sheet_of page.old) (lexemes.optional spec.stored target.now)) }
 {
     match target {
         None => Ok(()),
@@ -387,7 +387,7 @@ fn put_stored(page: &mut Page, target: &Option<Target>) -> Result<(), AllocError
 /// A reset.
 #[tactic(auto, using(crate::proofs::Puts::puts_both))]
 fn put_reset(page: &mut Page, qubits: &Operand) -> Result<(), AllocError>
-    ensures { OnOk result (sheet_of page.new ≡ put_sentence (sheet_of page.old) (spec.reset_words qubits.now)) }
+    ensures { OnOk result (sheet_of page.new ≡ put_sentence (sheet_of page.old) (spec.reset_lexemes qubits.now)) }
 {
     page.put(Role::Keyword, "reset")?;
     put_operand(page, qubits)?;
@@ -397,7 +397,7 @@ fn put_reset(page: &mut Page, qubits: &Operand) -> Result<(), AllocError>
 /// A barrier.
 #[tactic(auto, using(crate::proofs::Puts::puts_both))]
 fn put_barrier(page: &mut Page, qubits: &[Operand]) -> Result<(), AllocError>
-    ensures { OnOk result (sheet_of page.new ≡ put_sentence (sheet_of page.old) (spec.barrier_words qubits.now)) }
+    ensures { OnOk result (sheet_of page.new ≡ put_sentence (sheet_of page.old) (spec.barrier_lexemes qubits.now)) }
 {
     page.put(Role::Keyword, "barrier")?;
     put_operands(page, qubits)?;
@@ -407,7 +407,7 @@ fn put_barrier(page: &mut Page, qubits: &[Operand]) -> Result<(), AllocError>
 /// A gate call as a statement.
 #[tactic(auto, using(crate::proofs::Puts::puts_both))]
 pub(crate) fn put_gate_call(page: &mut Page, call: &GateCall) -> Result<(), AllocError>
-    ensures { OnOk result (sheet_of page.new ≡ put_sentence (sheet_of page.old) (spec.call_words call.now)) }
+    ensures { OnOk result (sheet_of page.new ≡ put_sentence (sheet_of page.old) (spec.call_lexemes call.now)) }
 {
     put_call(page, call)?;
     finish(page)
@@ -416,7 +416,7 @@ pub(crate) fn put_gate_call(page: &mut Page, call: &GateCall) -> Result<(), Allo
 /// A subroutine's call.
 #[tactic(auto, using(crate::proofs::Puts::puts_both))]
 fn put_subroutine_call(page: &mut Page, name: &Label, arguments: &[Expr]) -> Result<(), AllocError>
-    ensures { OnOk result (sheet_of page.new ≡ put_sentence (sheet_of page.old) (spec.subroutine_words name.now arguments.now)) }
+    ensures { OnOk result (sheet_of page.new ≡ put_sentence (sheet_of page.old) (spec.subroutine_lexemes name.now arguments.now)) }
 {
     page.put(Role::Name, name.text())?;
     put_arguments(page, arguments)?;
@@ -426,7 +426,7 @@ fn put_subroutine_call(page: &mut Page, name: &Label, arguments: &[Expr]) -> Res
 /// `return` and what is returned, where it stands.
 #[tactic(auto, using(crate::proofs::Puts::puts_both))]
 fn put_return(page: &mut Page, value: &Option<Right>) -> Result<(), AllocError>
-    ensures { OnOk result (sheet_of page.new ≡ put_sentence (sheet_of page.old) (spec.return_words value.now)) }
+    ensures { OnOk result (sheet_of page.new ≡ put_sentence (sheet_of page.old) (spec.return_lexemes value.now)) }
 {
     page.put(Role::Keyword, "return")?;
     put_returned(page, value)?;
@@ -435,7 +435,7 @@ fn put_return(page: &mut Page, value: &Option<Right>) -> Result<(), AllocError>
 
 /// What is returned, where it stands.
 fn put_returned(page: &mut Page, value: &Option<Right>) -> Result<(), AllocError>
-    ensures { OnOk result (sheet_of page.new ≡ puts (sheet_of page.old) (words.optional spec.right_words value.now)) }
+    ensures { OnOk result (sheet_of page.new ≡ puts (sheet_of page.old) (lexemes.optional spec.right_lexemes value.now)) }
 {
     match value {
         None => Ok(()),
@@ -446,7 +446,7 @@ fn put_returned(page: &mut Page, value: &Option<Right>) -> Result<(), AllocError
 /// A head with a condition: `if` or `while`.
 #[tactic(auto, using(crate::proofs::Puts::puts_both))]
 fn put_condition(page: &mut Page, head: &str, condition: &Expr) -> Result<(), AllocError>
-    ensures { OnOk result (sheet_of page.new ≡ puts (sheet_of page.old) (spec.condition_words head.now condition.now)) }
+    ensures { OnOk result (sheet_of page.new ≡ puts (sheet_of page.old) (spec.condition_lexemes head.now condition.now)) }
 {
     page.put(Role::Head, head)?;
     put_parenthesized(page, condition)
@@ -460,7 +460,7 @@ fn put_for_head(
     name: &Label,
     values: &Sequence,
 ) -> Result<(), AllocError>
-    ensures { OnOk result (sheet_of page.new ≡ puts (sheet_of page.old) (spec.for_words scalar.now name.now values.now)) }
+    ensures { OnOk result (sheet_of page.new ≡ puts (sheet_of page.old) (spec.for_lexemes scalar.now name.now values.now)) }
 {
     page.put(Role::Head, "for")?;
     put_scalar(page, scalar)?;
@@ -561,7 +561,7 @@ fn put_if(
     body: &[Statement],
     otherwise: &Option<Items<Statement>>,
 ) -> Result<(), AllocError>
-    ensures { OnOk result (sheet_of page.new ≡ pages.put_if (sheet_of page.old) depth (spec.condition_words (codes "if") condition.now) (map spec.statement_lines body.now) (pages.each_lines otherwise.now)) }
+    ensures { OnOk result (sheet_of page.new ≡ pages.put_if (sheet_of page.old) depth (spec.condition_lexemes (codes "if") condition.now) (map spec.statement_lines body.now) (pages.each_lines otherwise.now)) }
 {
     put_condition(page, "if", condition)?;
     put_body(page, depth, body)?;
@@ -595,7 +595,7 @@ fn put_while(
     condition: &Expr,
     body: &[Statement],
 ) -> Result<(), AllocError>
-    ensures { OnOk result (sheet_of page.new ≡ pages.put_block (sheet_of page.old) depth (spec.condition_words (codes "while") condition.now) (map spec.statement_lines body.now)) }
+    ensures { OnOk result (sheet_of page.new ≡ pages.put_block (sheet_of page.old) depth (spec.condition_lexemes (codes "while") condition.now) (map spec.statement_lines body.now)) }
 {
     put_condition(page, "while", condition)?;
     put_body(page, depth, body)?;
@@ -612,7 +612,7 @@ fn put_for(
     values: &Sequence,
     body: &[Statement],
 ) -> Result<(), AllocError>
-    ensures { OnOk result (sheet_of page.new ≡ pages.put_block (sheet_of page.old) depth (spec.for_words scalar.now name.now values.now) (map spec.statement_lines body.now)) }
+    ensures { OnOk result (sheet_of page.new ≡ pages.put_block (sheet_of page.old) depth (spec.for_lexemes scalar.now name.now values.now) (map spec.statement_lines body.now)) }
 {
     put_for_head(page, scalar, name, values)?;
     put_body(page, depth, body)?;

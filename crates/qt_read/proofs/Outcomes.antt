@@ -11,7 +11,7 @@ use Rattle.qt_lex.specs.declared.tokens.Token.{Token}
 use Rattle.qt_lex.specs.Bytes.{byte}
 use Rattle.qt_lex.specs.Tokens.{GivesTokens, FailsAt, place_of}
 use Rattle.qt_lex.proofs.Exact.{tokens_one, tokens_or_fault, fault_one}
-use Rattle.qt_read.specs.Reading.{HasTokens, IsTextOfProgram, IsRefused, HasOneOutcome, Spells, IsStopped, long, no_utf8, no_token, stopped}
+use Rattle.qt_read.specs.Reading.{HasTokens, IsTextOfProgram, IsRefused, HasOneOutcome, SpellsOnly, IsStopped, long, no_utf8, no_token, stopped}
 use Rattle.qt_read.proofs.Stops.{one_program, one_stop, program_or_stop}
 
 behind : (text : List ℕ) → byte text (length text) ≡ 0
@@ -30,8 +30,8 @@ never file text p q h g = tokens_or_fault (byte text) file (length text) (behind
 one_count : (text : List ℕ) (m n : ℕ) → IsValidUpTo text m → IsValidUpTo text n → m ≡ n
 one_count text m n h g = sym (utf8_valid_len-IsValidUpTo text m h) ∙ utf8_valid_len-IsValidUpTo text n g
 
-same_spelling : (file : ℕ) (text : List ℕ) (ts us : List Token) (q : Program) → HasTokens file text ts → HasTokens file text us → Spells text us q → Spells text ts q
-same_spelling file text ts us q h g s = subst (λ x. Spells text x q) (one_list file text us ts g.given h.given) s
+same_spelling : (file : ℕ) (text : List ℕ) (ts us : List Token) (q : Program) → HasTokens file text ts → HasTokens file text us → SpellsOnly text us q → SpellsOnly text ts q
+same_spelling file text ts us q h g s = subst (λ x. SpellsOnly text x q) (one_list file text us ts g.given h.given) s
 
 same_stop : (file : ℕ) (text : List ℕ) (ts us : List Token) (q : TextRefusal) → HasTokens file text ts → HasTokens file text us → IsStopped text us q → IsStopped text ts q
 same_stop file text ts us q h g s = subst (λ x. IsStopped text x q) (one_list file text us ts g.given h.given) s

@@ -4,13 +4,13 @@ use Rattle.std.specs.Str.{IsUtf8}
 use Rattle.qt_tree.specs.declared.program.Program.{Program}
 use Rattle.qt_lex.specs.declared.tokens.Token.{Token}
 use Rattle.qt_lex.specs.Tokens.{GivesTokens}
-use Rattle.qt_words.specs.Terminals.{terminals, stream}
+use Rattle.qt_terminals.specs.Terminals.{terminals, stream}
 use Rattle.qt_grammar.specs.Reading.{language_limits}
 use Rattle.qt_grammar.specs.Promise.{OnlyProgram}
 use Rattle.qt_expr.specs.declared.refusal.ParseRefusal.{ParseRefusal}
 use Rattle.qt_expr.specs.declared.refusal.ParseRefusal.TheVariants as p
 use Rattle.qt_parse.specs.Promise.{Refused}
-use Rattle.qt_read.specs.Reading.{HasTokens, IsTextOfProgram, IsRefused, IsReason, Spells, IsStopped, refusal_of, most_bytes, stopped}
+use Rattle.qt_read.specs.Reading.{HasTokens, IsTextOfProgram, IsRefused, IsReason, SpellsOnly, IsStopped, refusal_of, most_bytes, stopped}
 
 -- the tokens that the lexer gave for the characters, said of the bytes
 pub has_tokens : (file : ℕ) (text bytes : List ℕ) (given ts : List Token) → text ≡ bytes → length bytes ≤ most_bytes → IsUtf8 bytes → ts ≡ given → GivesTokens text file given → HasTokens file bytes ts
@@ -22,7 +22,7 @@ has_tokens file text bytes given ts same within utf8 e h = record {
 
 -- what the parser answers about the tokens, said of the text
 pub program_of : (file : ℕ) (text bytes : List ℕ) (ts : List Token) → text ≡ bytes → HasTokens file bytes ts → (program : Program) → OnlyProgram (stream (terminals text ts)) language_limits program → IsTextOfProgram file bytes program
-unfolding Spells
+unfolding SpellsOnly
 program_of file text bytes ts same has program h = record { tokens = ts; has = has; spelled = subst (λ t. OnlyProgram (stream (terminals t ts)) language_limits program) same h }
 
 stop : (name : List ℕ) (file : ℕ) (text : List ℕ) (ts : List Token) → HasTokens file text ts → (e : ParseRefusal) → e ≢ p.OutOfMemory → Refused (terminals text ts) e → IsRefused name file text (refusal_of e)

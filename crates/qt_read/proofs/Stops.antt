@@ -5,10 +5,10 @@ use Rattle.qt_tree.specs.declared.refusal.Feature.{Feature}
 use Rattle.qt_tree.specs.declared.program.Program.{Program}
 use Rattle.qt_tree.specs.declared.refusal.TextRefusal.{TextRefusal}
 use Rattle.qt_lex.specs.declared.tokens.Token.{Token}
-use Rattle.qt_words.specs.declared.word.Word.{Word}
-use Rattle.qt_words.specs.declared.word.Word.TheVariants as w
-use Rattle.qt_words.specs.Words.{feature_of}
-use Rattle.qt_words.specs.Terminals.{Terminal, terminals, stream}
+use Rattle.qt_terminals.specs.declared.terminal.Terminal.{Terminal}
+use Rattle.qt_terminals.specs.declared.terminal.Terminal.TheVariants as w
+use Rattle.qt_terminals.specs.Alphabet.{feature_of}
+use Rattle.qt_terminals.specs.Terminals.{PlacedTerminal, terminals, stream}
 use Rattle.qt_grammar.specs.declared.refusal.Refusal.{Refusal}
 use Rattle.qt_grammar.specs.declared.refusal.Refusal.TheVariants.{Syntax, Nest, OutOfMemory}
 use Rattle.qt_grammar.specs.Reading.{language_limits}
@@ -17,16 +17,16 @@ use Rattle.qt_grammar.proofs.Theorems.{one_parse}
 use Rattle.qt_expr.specs.declared.refusal.ParseRefusal.{ParseRefusal}
 use Rattle.qt_expr.specs.declared.refusal.ParseRefusal.TheVariants as p
 use Rattle.qt_parse.specs.Promise.{Refused, StopsAt, TooDeepAt, IsOfFeature}
-use Rattle.qt_read.specs.Reading.{Spells, IsStopped, refusal_of}
+use Rattle.qt_read.specs.Reading.{SpellsOnly, IsStopped, refusal_of}
 
-pub one_program : (text : List ℕ) (ts : List Token) (a b : Program) → Spells text ts a → Spells text ts b → a ≡ b
-unfolding Spells
+pub one_program : (text : List ℕ) (ts : List Token) (a b : Program) → SpellsOnly text ts a → SpellsOnly text ts b → a ≡ b
+unfolding SpellsOnly
 one_program text ts a b h g = g.only language_limits a h.spells
 
 abbrev refused : Refusal → Result Program Refusal
 refused x = Err x
 
-module _ (all : List Terminal) where
+module _ (all : List PlacedTerminal) where
   -- the answers of a parser
   one_token : (a b : Refusal) → a ≢ OutOfMemory → b ≢ OutOfMemory → Parses (stream all) language_limits (Err a) → Parses (stream all) language_limits (Err b) → a ≡ b
   one_token a b p q h g = refusal_same (one_parse all language_limits (Err a) (Err b) (λ e. p (refusal_same e)) (λ e. q (refusal_same e)) h g)
@@ -57,13 +57,13 @@ module _ (all : List Terminal) where
 
   one_feature : (n : ℕ) (a b : Feature) → IsOfFeature all n a → IsOfFeature all n b → a ≡ b
   one_feature n a b (inl h) (inl g) = cc (h, g)
-  one_feature n a b (inl h) (inr g) = absurd (at_has_none (stream all n).word a g.0 h)
+  one_feature n a b (inl h) (inr g) = absurd (at_has_none (stream all n).terminal a g.0 h)
     where
-      at_has_none : (word : Word) (feature : Feature) → word ≡ w.At → feature_of word ≡ Some feature → ⊥
+      at_has_none : (word : Terminal) (feature : Feature) → word ≡ w.At → feature_of word ≡ Some feature → ⊥
       at_has_none word feature e h = absurd (cc (sym (ap feature_of e) ∙ h))
-  one_feature n a b (inr h) (inl g) = absurd (at_has_none (stream all n).word b h.0 g)
+  one_feature n a b (inr h) (inl g) = absurd (at_has_none (stream all n).terminal b h.0 g)
     where
-      at_has_none : (word : Word) (feature : Feature) → word ≡ w.At → feature_of word ≡ Some feature → ⊥
+      at_has_none : (word : Terminal) (feature : Feature) → word ≡ w.At → feature_of word ≡ Some feature → ⊥
       at_has_none word feature e h = absurd (cc (sym (ap feature_of e) ∙ h))
   one_feature n a b (inr h) (inr g) = h.2 ∙ sym g.2
 
@@ -114,6 +114,6 @@ pub one_stop : (text : List ℕ) (ts : List Token) (a b : TextRefusal) → IsSto
 unfolding IsStopped
 one_stop text ts a b h g = h.3 ∙ ap refusal_of (one_refusal (terminals text ts) h.0 g.0 h.1 g.1 h.2 g.2) ∙ sym g.3
 
-pub program_or_stop : (text : List ℕ) (ts : List Token) (q : Program) (e : TextRefusal) → Spells text ts q → IsStopped text ts e → ⊥
-unfolding Spells IsStopped
+pub program_or_stop : (text : List ℕ) (ts : List Token) (q : Program) (e : TextRefusal) → SpellsOnly text ts q → IsStopped text ts e → ⊥
+unfolding SpellsOnly IsStopped
 program_or_stop text ts q e h g = program_or_refusal (terminals text ts) q g.0 g.1 h g.2

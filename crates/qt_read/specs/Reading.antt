@@ -8,7 +8,7 @@ use Rattle.qt_tree.specs.declared.refusal.TextRefusal.{TextRefusal}
 use Rattle.qt_tree.specs.declared.refusal.TextRefusal.TheVariants as r
 use Rattle.qt_lex.specs.declared.tokens.Token.{Token}
 use Rattle.qt_lex.specs.Tokens.{GivesTokens, FailsAt}
-use Rattle.qt_words.specs.Terminals.{terminals, stream}
+use Rattle.qt_terminals.specs.Terminals.{terminals, stream}
 use Rattle.qt_grammar.specs.Reading.{language_limits}
 use Rattle.qt_grammar.specs.Promise.{OnlyProgram}
 use Rattle.qt_expr.specs.declared.refusal.ParseRefusal.{ParseRefusal}
@@ -20,8 +20,8 @@ abbrev pub most_bytes : ℕ
 most_bytes = 1048576
 
 -- the tokens of a text spell this program within the limits, and no other whatever the limits
-unfoldable pub Spells : List ℕ → List Token → Program → Type 0
-Spells text tokens program = OnlyProgram (stream (terminals text tokens)) language_limits program
+unfoldable pub SpellsOnly : List ℕ → List Token → Program → Type 0
+SpellsOnly text tokens program = OnlyProgram (stream (terminals text tokens)) language_limits program
 
 -- a refusal of tokens as one of the text
 abbrev pub refusal_of : ParseRefusal → TextRefusal
@@ -45,7 +45,7 @@ pub record HasTokens (file : ℕ) (text : List ℕ) (tokens : List Token) : Type
 pub record IsTextOfProgram (file : ℕ) (text : List ℕ) (program : Program) : Type 0 where
   pub tokens : List Token
   pub has : HasTokens file text tokens
-  pub spelled : Spells text tokens program
+  pub spelled : SpellsOnly text tokens program
 
 -- the text of that name and number is that of no program, for this reason, which is the first that holds
 pub data IsRefused (name : List ℕ) (file : ℕ) (text : List ℕ) : TextRefusal → Type 0 where

@@ -1,4 +1,4 @@
--- Which bytes may follow a word, so that nothing longer begins where it begins.
+-- Which bytes may follow a lexeme, so that nothing longer begins where it begins.
 use Rattle.std.proofs.Common.{◌≡◌, ℕ, ◌+◌, ◌≤◌, inl, inr, Bool, true, false, not, ◌&&◌, ◌||◌, eqb, leb, cond, bytes_eq, List, [], ◌∷◌, ◌++◌, length, codes, refl, sym, ◌∙◌, ap, subst, arith}
 use Rattle.qt_lex.specs.declared.number.Radix.{Radix}
 use Rattle.qt_lex.specs.declared.number.Radix.TheVariants as radix
@@ -13,9 +13,9 @@ use Rattle.qt_wording.specs.Spelling.{IsAmong}
 use Rattle.qt_wording.proofs.Tables.{among, same_is}
 use Rattle.qt_relex.proofs.Agreeing.{both, eqb_equal}
 
--- ---- words and numbers
+-- ---- lexemes and numbers
 
--- a byte that may go on a word or a number
+-- a byte that may go on a lexeme or a number
 abbrev pub continues : ℕ → Bool
 continues c = is_name_byte c || (eqb c 46 || leb 128 c)
 

@@ -1,4 +1,4 @@
--- Where a word stands by itself and a byte follows that doesn't go on with it, it is the longest token.
+-- Where a lexeme stands by itself and a byte follows that doesn't go on with it, it is the longest token.
 use Rattle.std.proofs.Common.{◌≡◌, ℕ, ◌+◌, ◌≤◌, ◌<◌, inl, inr, true, false, not, ◌&&◌, eqb, List, [], ◌∷◌, Some, length, codes, refl, sym, ◌∙◌, subst, arith}
 use Rattle.qt_lex.specs.declared.tokens.Kind.{Kind}
 use Rattle.qt_lex.specs.declared.tokens.Kind.TheVariants.{Name, Reserved, Integer, Decimal, Text, Symbol, Constant}
@@ -6,14 +6,14 @@ use Rattle.qt_lex.specs.declared.number.Radix.{Radix}
 use Rattle.qt_lex.specs.declared.number.Radix.TheVariants as radix
 use Rattle.qt_lex.specs.Bytes.{byte, is_digit, is_name_byte, is_name_start, is_blank, symbols, reserved_words, constants, stands, IsOneOf, EachFrom}
 use Rattle.qt_lex.specs.Numbers.{is_exponent_sign, is_sign, goes_on, IsWhole, IsInteger, IsExponent, IsDecimal}
-use Rattle.qt_lex.specs.Tokens.{IsToken, Longest, IsSolid}
+use Rattle.qt_lex.specs.Tokens.{IsToken, LongestToken, IsSolid}
 use Rattle.qt_lex.specs.Answers.{IsPreferred, IsLongestExponent, IsLongestDecimal}
 use Rattle.qt_lex.proofs.Tables.{and_left, and_right, or_left, not_false, eqb_same, compare, head_of_one, word_of_one, run_ends}
 use Rattle.qt_lex.proofs.Heads.{head, head_word, whole_head, decimal_head, other}
-use Rattle.qt_lex.proofs.Words.{text_is}
+use Rattle.qt_lex.proofs.Lexemes.{text_is}
 use Rattle.qt_lex.proofs.Numbers.{is_mark, prefix_is, mark_stops, whole_decimal}
 use Rattle.qt_lex.proofs.Decimals.{unpointed_longest, pointed_longest, fraction_longest}
-use Rattle.qt_lex.proofs.Longest.{decimal_is, whole_is}
+use Rattle.qt_lex.proofs.LongestToken.{decimal_is, whole_is}
 use Rattle.qt_lex.proofs.Spans.{token_some}
 use Rattle.qt_relex.proofs.Agreeing.{exponent_some, one_back, test_there, each_there, integer_there, decimal_there, text_there, wide_there, stands_byte}
 use Rattle.qt_wording.proofs.Tables.{among}
@@ -29,7 +29,7 @@ sign_no_point : (c : ℕ) → is_exponent_sign c ≡ true → c ≡ 46 → ⊥
 sign_no_point c h g = grind arith
 
 module _ (b : ℕ → ℕ) where
-  -- no token that begins with a word is longer than the word
+  -- no token that begins with a lexeme is longer than the lexeme
   word_bounds : (i e : ℕ) → i < e → is_name_start (b i) ≡ true → is_name_byte (b e) ≡ false → (k : Kind) (j : ℕ) → IsToken b k i j → j ≤ e
   word_bounds i e lt s stop Name j h = run_ends b is_name_byte (i + 1) e j (omega (arith, lt)) stop h.0.others
   word_bounds i e lt s stop Reserved j h = run_ends b is_name_byte (i + 1) e j (omega (arith, lt)) stop (word_of_one b reserved_words i j refl s h)
@@ -58,7 +58,7 @@ module _ (b : ℕ → ℕ) where
             ]
           ]
 
-  pub integer_longest : (i e : ℕ) → IsInteger b i e → continues (b e) ≡ false → Longest b Integer i e
+  pub integer_longest : (i e : ℕ) → IsInteger b i e → continues (b e) ≡ false → LongestToken b Integer i e
   integer_longest i e (r, s, w, small) stop =
       whole_is b r s i e Integer Integer e (or_left _ _ (whole_head b r s i e w)) (λ t d. no_decimal_byte (b e) stop (whole_decimal b r s i e t w d).1)
       w (stops b r e stop) (preferred r s i e w stop) (λ h. no_t (b e) stop h.2) (r, s, w, small) (inr (inr (refl, refl))) (omega arith)
@@ -96,15 +96,15 @@ module _ (b : ℕ → ℕ) where
   longest_decimal i e (inr (inr (m, s, lt, all, x))) stop =
       unpointed_longest b i m e (omega (arith, lt)) all (sign_no_digit (b m) x.head) (sign_no_point (b m) x.head) (exponent_longest s m e x (no_digit (b e) stop))
 
-  pub decimal_longest : (i e : ℕ) → IsDecimal b i e → continues (b e) ≡ false → Longest b Decimal i e
+  pub decimal_longest : (i e : ℕ) → IsDecimal b i e → continues (b e) ≡ false → LongestToken b Decimal i e
   decimal_longest i e d stop =
       decimal_is b i e Decimal e (decimal_head b i e d) d (longest_decimal i e d stop) (inr (inr (refl, refl))) (omega arith)
       (λ t u. absurd (no_time_unit b e t stop u)) (λ t u. absurd (no_imaginary_unit b e t stop u))
 
--- a word of a kind found where it stands: no blank, no comment, and nothing longer begins there
+-- a lexeme of a kind found where it stands: no blank, no comment, and nothing longer begins there
 pub record Found (b : ℕ → ℕ) (k : Kind) (i j : ℕ) : Type 0 where
   pub solid : IsSolid b i
-  pub longest : Longest b k i j
+  pub longest : LongestToken b k i j
   pub some : i < j
 
 module _ (b : ℕ → ℕ) (text : List ℕ) (i : ℕ) (here : stands b text i ≡ true) where

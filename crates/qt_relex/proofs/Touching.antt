@@ -1,4 +1,4 @@
--- What the spacing puts behind a word ends it: a space, a line feed, or a word that doesn't go on with it.
+-- What the spacing puts behind a lexeme ends it: a space, a line feed, or a lexeme that doesn't go on with it.
 use Rattle.std.proofs.Common.{◌≡◌, ℕ, ◌+◌, ◌<◌, Bool, true, false, not, ◌&&◌, ◌||◌, eqb, List, [], ◌∷◌, length, codes, refl, arith}
 use Rattle.qt_lex.specs.declared.tokens.Kind.TheVariants as kind
 use Rattle.qt_lex.specs.Bytes.{byte, is_digit, is_name_start, is_quote, symbols, reserved_words, constants, stands}
@@ -13,7 +13,7 @@ use Rattle.qt_wording.proofs.Tables.{among, texts_of}
 use Rattle.qt_relex.proofs.Following.{continues, ends_symbol, begins, each, each_among}
 use Rattle.qt_relex.proofs.Longest.{Found, name_found, reserved_found, constant_found, integer_found, decimal_found, text_found, symbol_found}
 
--- may this byte stand right behind this word?
+-- may this byte stand right behind this lexeme?
 abbrev pub ends : Role → List ℕ → ℕ → Bool
 ends r.Name text c = not (continues c)
 ends r.Integer text c = not (continues c)
@@ -52,7 +52,7 @@ symbols_are = refl
 symbols_end : each ends_blank symbols ≡ true
 symbols_end = refl
 
--- ---- each word is found where it stands
+-- ---- each lexeme is found where it stands
 
 module _ (b : ℕ → ℕ) (text : List ℕ) (i : ℕ) (here : stands b text i ≡ true) where
   keyword_found : IsAmong reserved_words text → not (continues (b (i + length text))) ≡ true → Found b (kind_of r.Keyword) i (i + length text)
@@ -76,7 +76,7 @@ module _ (b : ℕ → ℕ) (text : List ℕ) (i : ℕ) (here : stands b text i �
   found r.Operator h e = sign_found (each_among is_symbol symbols text symbols_are h) e
   found role h e = sign_found (each_among is_symbol (texts_of role) text refl h) e
 
--- ---- no word is empty
+-- ---- no lexeme is empty
 
 some_among : (t : List (List ℕ)) (text : List ℕ) → each (λ x. not (eqb (length x) 0)) t ≡ true → IsAmong t text → 0 < length text
 some_among t text h m = at_length (length text) (each_among (λ x. not (eqb (length x) 0)) t text h m)
@@ -156,7 +156,7 @@ mild role text h e = each_among (λ x. is_mild (byte x 0)) (texts_of role) text 
 mild_ends : (c : ℕ) → is_mild c ≡ true → each (λ x. ends_symbol x c) signs ≡ true
 mild_ends c h = grind arith
 
--- two words with no space between don't join
+-- two lexemes with no space between don't join
 pub touch : (last following : Role) (text text' : List ℕ) → IsSpelledAs last text → IsSpelledAs following text' → has_space last following ≡ false → ends last text (byte text' 0) ≡ true
 touch r.Name following text text' h g e = blunt following text' g e
 touch r.Integer following text text' h g e = blunt following text' g e

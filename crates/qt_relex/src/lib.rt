@@ -1,8 +1,8 @@
-//! The canonical text of a program is read as the words that were printed: what the lexer makes of it is known.
+//! The canonical text of a program is read as the lexemes that were printed: what the lexer makes of it is known.
 //!
-//! A line of printed words is laid out by a table of spaces for each two neighbours, and nothing says which words may stand side by
-//! side. [`laws::words_are_tokens`] holds of all lists of lines whatever: where each word is spelled as a token of its kind, the
-//! text of the lines has exactly these words as tokens, each with its own bytes, and then its end.
+//! A line of printed lexemes is laid out by a table of spaces for each two neighbours, and nothing says which lexemes may stand side by
+//! side. [`laws::lexemes_are_tokens`] holds of all lists of lines whatever: where each lexeme is spelled as a token of its kind, the
+//! text of the lines has exactly these lexemes as tokens, each with its own bytes, and then its end.
 //! [`laws::tokens_count_operators`] says that the tokens of any text count its operators. The round trip of a program calls both.
 #![tactic(auto)]
 

@@ -5,7 +5,7 @@ use Rattle.qt_lex.specs.Bytes.{byte}
 use Rattle.qt_lex.specs.Numbers.{is_digit_of}
 use Rattle.qt_lex.specs.Bits.{each_goes_on, are_bits, digit_count}
 use Rattle.qt_lex.proofs.Tables.{and_left, and_right}
-use Rattle.qt_words.specs.Literals.{is_bit_text, bit_count}
+use Rattle.qt_terminals.specs.Literals.{is_bit_text, bit_count}
 
 no_underscore : (c : ℕ) → (leb 48 c && leb c 49) ≡ true → eqb c 95 ≡ false
 no_underscore c h = grind arith

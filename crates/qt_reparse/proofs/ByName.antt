@@ -8,49 +8,49 @@ use Rattle.qt_tree.specs.declared.statement.Target.{Target}
 use Rattle.qt_tree.specs.declared.statement.CalledGate.TheVariants as g
 use Rattle.qt_tree.specs.declared.statement.StatementForm.{StatementForm}
 use Rattle.qt_tree.specs.declared.statement.StatementForm.TheVariants as form_of
-use Rattle.qt_words.specs.declared.word.Word.TheVariants as w
+use Rattle.qt_terminals.specs.declared.terminal.Terminal.TheVariants as w
 use Rattle.qt_grammar.specs.Language.{ended, of_which, compounds, compound_op, behind_target, call_of, behind_first_name, by_name}
-use Rattle.qt_print.specs.Words.{Word, name, semicolon, parenthesized, optional as optional_words}
-use Rattle.qt_print.specs.Expressions.{expr_words, list_words}
-use Rattle.qt_print.specs.Statements.{target_words, assigned, operands_words, assignment_words, compound_words, call_words, subroutine_words}
+use Rattle.qt_print.specs.Lexemes.{Lexeme, name, semicolon, parenthesized, optional as optional_lexemes}
+use Rattle.qt_print.specs.Expressions.{expr_lexemes, list_lexemes}
+use Rattle.qt_print.specs.Statements.{target_lexemes, assigned, operands_lexemes, assignment_lexemes, compound_lexemes, call_lexemes, subroutine_lexemes}
 use Rattle.qt_print.proofs.Forms.{assignment_lines, compound_lines, gate_lines, subroutine_lines}
 use Rattle.qt_reparse.proofs.Operators.{printed_compound, compound_means}
 use Rattle.qt_reparse.proofs.Again.{Any}
-use Rattle.qt_reparse.proofs.Plain.{words_both}
+use Rattle.qt_reparse.proofs.Plain.{lexemes_both}
 use Rattle.qt_reparse.proofs.Setting.{Setting, Reader, Rereads}
-use Rattle.qt_reparse.proofs.Forms.{form-one, form-maybe, form-either, form-sign, form-as, form-then}
+use Rattle.qt_reparse.proofs.Forms.{form-one, form-maybe, form-either, form-exactly, form-as, form-then}
 use Rattle.qt_reparse.proofs.Literals.{label-again}
 use Rattle.qt_reparse.proofs.Scalars.{arguments-again, all_indexes-again}
 use Rattle.qt_reparse.proofs.Expressions.{expression-again}
 use Rattle.qt_reparse.proofs.Operands.{first_value-again, operands-again}
-use Rattle.qt_reparse.proofs.Sentences.{form_words, sentence_words}
+use Rattle.qt_reparse.proofs.Sentences.{form_lexemes, sentence_lexemes}
 
--- what was read behind a target, and behind a name, by the words of the whole, whose last is a `;`
-abbrev BehindTarget : (Target → StatementForm) → List Word → Type 0
-BehindTarget tail l = (to : Target) → form_words (tail to) ≡ target_words to ++ (l ++ semicolon ∷ [])
+-- what was read behind a target, and behind a name, by the lexemes of the whole, whose last is a `;`
+abbrev BehindTarget : (Target → StatementForm) → List Lexeme → Type 0
+BehindTarget tail l = (to : Target) → form_lexemes (tail to) ≡ target_lexemes to ++ (l ++ semicolon ∷ [])
 
-abbrev BehindName : (List ℕ → StatementForm) → List Word → Type 0
-BehindName tail l = (text : List ℕ) → form_words (tail text) ≡ name text ∷ (l ++ semicolon ∷ [])
+abbrev BehindName : (List ℕ → StatementForm) → List Lexeme → Type 0
+BehindName tail l = (text : List ℕ) → form_lexemes (tail text) ≡ name text ∷ (l ++ semicolon ∷ [])
 
-gate_is : (call : GateCall) → form_words (form_of.Gate call) ≡ call_words call ++ semicolon ∷ []
-gate_is call = sentence_words (call_words call) (gate_lines call)
+gate_is : (call : GateCall) → form_lexemes (form_of.Gate call) ≡ call_lexemes call ++ semicolon ∷ []
+gate_is call = sentence_lexemes (call_lexemes call) (gate_lines call)
 
-call_of_words : (xs : List Expr) (o : Option (List Operand)) (text : List ℕ) → form_words (call_of xs o text) ≡ name text ∷ ((parenthesized (list_words xs) ++ optional_words operands_words o) ++ semicolon ∷ [])
-call_of_words xs None text = sentence_words (subroutine_words text xs) (subroutine_lines text xs) ∙ ap (λ t. name text ∷ (t ++ semicolon ∷ [])) (sym (append-nil (parenthesized (list_words xs))))
-call_of_words xs (Some qs) text = gate_is (record { modifiers = []; gate = g.Named text (Some xs); operands = qs })
+call_of_lexemes : (xs : List Expr) (o : Option (List Operand)) (text : List ℕ) → form_lexemes (call_of xs o text) ≡ name text ∷ ((parenthesized (list_lexemes xs) ++ optional_lexemes operands_lexemes o) ++ semicolon ∷ [])
+call_of_lexemes xs None text = sentence_lexemes (subroutine_lexemes text xs) (subroutine_lines text xs) ∙ ap (λ t. name text ∷ (t ++ semicolon ∷ [])) (sym (append-nil (parenthesized (list_lexemes xs))))
+call_of_lexemes xs (Some qs) text = gate_is (record { modifiers = []; gate = g.Named text (Some xs); operands = qs })
 
 module _ (s : Setting) (outer : Option ℕ) where
   behind_target-again : Reader s outer behind_target behind_target BehindTarget (λ x y. x ≡ y) Any
   behind_target-again = form-either
       (form-as (first_value-again s outer) (λ x to. form_of.Assignment to x) BehindTarget (λ x y. x ≡ y)
-      (λ x l h to. sentence_words (assignment_words to x) (assignment_lines to x) ∙ (append_assoc (target_words to) (assigned x) (semicolon ∷ []) ∙ ap (λ t. target_words to ++ (t ++ semicolon ∷ [])) h))
+      (λ x l h to. sentence_lexemes (assignment_lexemes to x) (assignment_lines to x) ∙ (append_assoc (target_lexemes to) (assigned x) (semicolon ∷ []) ∙ ap (λ t. target_lexemes to ++ (t ++ semicolon ∷ [])) h))
       (λ x y same. ap (λ z (to : Target). form_of.Assignment to z) same))
-      (form-then (form-one compounds (λ t. printed_compound t.word) refl (λ t h. compound_means t.word h)) (expression-again s outer) (λ k x to. form_of.CompoundAssignment to (compound_op k.word) x) BehindTarget (λ x y. x ≡ y)
+      (form-then (form-one compounds (λ t. printed_compound t.terminal) refl (λ t h. compound_means t.terminal h)) (expression-again s outer) (λ k x to. form_of.CompoundAssignment to (compound_op k.terminal) x) BehindTarget (λ x y. x ≡ y)
       (λ k x l m h i to.
-      sentence_words (compound_words to (compound_op k.word) x) (compound_lines to (compound_op k.word) x)
-      ∙ (append_assoc (target_words to) (printed_compound k.word ∷ expr_words x) (semicolon ∷ [])
-      ∙ ap (λ t. target_words to ++ (t ++ semicolon ∷ [])) (words_both (printed_compound k.word ∷ []) (expr_words x) l m h i)))
-      (λ k k' x x' same alike. ap (λ t (to : Target). form_of.CompoundAssignment to (compound_op t) x) same ∙ ap (λ t (to : Target). form_of.CompoundAssignment to (compound_op k'.word) t) alike)
+      sentence_lexemes (compound_lexemes to (compound_op k.terminal) x) (compound_lines to (compound_op k.terminal) x)
+      ∙ (append_assoc (target_lexemes to) (printed_compound k.terminal ∷ expr_lexemes x) (semicolon ∷ [])
+      ∙ ap (λ t. target_lexemes to ++ (t ++ semicolon ∷ [])) (lexemes_both (printed_compound k.terminal ∷ []) (expr_lexemes x) l m h i)))
+      (λ k k' x x' same alike. ap (λ t (to : Target). form_of.CompoundAssignment to (compound_op t) x) same ∙ ap (λ t (to : Target). form_of.CompoundAssignment to (compound_op k'.terminal) t) alike)
       (λ y l h m j has f. tt))
 
   behind_first_name-again : Reader s outer behind_first_name behind_first_name BehindName (λ x y. x ≡ y) Any
@@ -64,16 +64,16 @@ module _ (s : Setting) (outer : Option ℕ) where
       (λ x y same. ap {B = List ℕ → StatementForm} (λ (t : Target → StatementForm) (text : List ℕ). t (record { name = text; brackets = [] })) same))
       (form-either
       (form-then (arguments-again s outer) (form-maybe (operands-again s outer)) call_of BehindName (λ x y. x ≡ y)
-      (λ xs o l m h i text. call_of_words xs o text ∙ ap (λ t. name text ∷ (t ++ semicolon ∷ [])) (words_both (parenthesized (list_words xs)) (optional_words operands_words o) l m h i))
+      (λ xs o l m h i text. call_of_lexemes xs o text ∙ ap (λ t. name text ∷ (t ++ semicolon ∷ [])) (lexemes_both (parenthesized (list_lexemes xs)) (optional_lexemes operands_lexemes o) l m h i))
       (λ x x' y y' same alike. ap (λ t. call_of t y) same ∙ ap (call_of x') alike) (λ y l h m j has f. tt))
       (form-as (operands-again s outer) (λ qs name. form_of.Gate (record { modifiers = []; gate = g.Named name None; operands = qs })) BehindName (λ x y. x ≡ y)
       (λ qs l h text. gate_is (record { modifiers = []; gate = g.Named text None; operands = qs }) ∙ ap (λ t. name text ∷ (t ++ semicolon ∷ [])) h)
       (λ x y same. ap {B = List ℕ → StatementForm} (λ qs (text : List ℕ). form_of.Gate (record { modifiers = []; gate = g.Named text None; operands = qs })) same))))
 
-  ended-again : Reader s outer (ended behind_first_name) (ended behind_first_name) (λ tail l. (text : List ℕ) → form_words (tail text) ≡ name text ∷ l) (λ x y. x ≡ y) Any
-  ended-again = form-then behind_first_name-again (form-sign semicolon w.Semicolon refl) (λ x y. x) (λ tail l. (text : List ℕ) → form_words (tail text) ≡ name text ∷ l) (λ x y. x ≡ y)
+  ended-again : Reader s outer (ended behind_first_name) (ended behind_first_name) (λ tail l. (text : List ℕ) → form_lexemes (tail text) ≡ name text ∷ l) (λ x y. x ≡ y) Any
+  ended-again = form-then behind_first_name-again (form-exactly semicolon w.Semicolon refl) (λ x y. x) (λ tail l. (text : List ℕ) → form_lexemes (tail text) ≡ name text ∷ l) (λ x y. x ≡ y)
       (λ tail t l m h i text. h text ∙ ap (λ x. name text ∷ (l ++ x)) i) (λ x x' y y' same alike. same) (λ y l h m j has f. tt)
 
-  pub by_name-again : Rereads s outer by_name form_words
-  by_name-again = form-then (label-again s outer) ended-again of_which (λ v l. form_words v ≡ l) (λ x y. x ≡ y)
+  pub by_name-again : Rereads s outer by_name form_lexemes
+  by_name-again = form-then (label-again s outer) ended-again of_which (λ v l. form_lexemes v ≡ l) (λ x y. x ≡ y)
       (λ text tail l m h i. i text ∙ ap (λ t. t ++ m) h) (λ x x' y y' same alike. ap (λ t. of_which t y) same ∙ ap (λ (t : List ℕ → StatementForm). of_which x' t) alike) (λ y l h m j has f. tt)

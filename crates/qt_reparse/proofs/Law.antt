@@ -1,25 +1,25 @@
--- A program's canonical words, and then the end, spell the program but for places.
+-- A program's canonical lexemes, and then the end, spell the program but for places.
 use Rattle.std.proofs.Common.{◌≡◌, ℕ, ◌+◌, List, [], ◌∷◌, ◌++◌, map, Option, None, refl, sym, ◌∙◌, ap, subst}
 use Rattle.qt_tree.specs.declared.program.Item.{Item}
 use Rattle.qt_tree.specs.declared.program.Program.{Program}
 use Rattle.qt_tree.specs.declared.program.Version.{Version}
-use Rattle.qt_words.specs.declared.word.Word.TheVariants as w
-use Rattle.qt_words.specs.Words.{code}
-use Rattle.qt_words.specs.Terminals.{Terminal}
+use Rattle.qt_terminals.specs.declared.terminal.Terminal.TheVariants as w
+use Rattle.qt_terminals.specs.Alphabet.{code}
+use Rattle.qt_terminals.specs.Terminals.{PlacedTerminal}
 use Rattle.qt_grammar.specs.Form.{maybe, member, Reading, ReadsOne, ReadsThen}
 use Rattle.qt_grammar.specs.Language.{version_form}
 use Rattle.qt_grammar.specs.Reading.{ReadsTo}
 use Rattle.qt_print.specs.Statements.{all_lines}
 use Rattle.qt_print.specs.Programs.{first_lines, item_lines, program_lines}
 use Rattle.qt_wording.specs.Places.{origin, bare_item, bare_version, SameButPlaces}
-use Rattle.qt_wording.specs.Written.{words_of, Written}
+use Rattle.qt_wording.specs.Written.{lexemes_of, Written}
 use Rattle.qt_reparse.specs.Laws.{ReadsAgain}
-use Rattle.qt_reparse.proofs.Streams.{Streams, At, written_split, word_in}
+use Rattle.qt_reparse.proofs.Streams.{Streams, At, written_split, terminal_in}
 use Rattle.qt_reparse.proofs.Again.{Again, Any}
-use Rattle.qt_reparse.proofs.Plain.{words_both}
+use Rattle.qt_reparse.proofs.Plain.{lexemes_both}
 use Rattle.qt_reparse.proofs.Setting.{Setting, Reader, NoElse}
 use Rattle.qt_reparse.proofs.Forms.{form-perhaps}
-use Rattle.qt_reparse.proofs.Sentences.{words_of_both}
+use Rattle.qt_reparse.proofs.Sentences.{lexemes_of_both}
 use Rattle.qt_reparse.proofs.Programs.{items-again, version-again}
 use Rattle.qt_reparse.proofs.Levels.{names_at}
 
@@ -29,36 +29,36 @@ SameVersion x y = bare_version x ≡ bare_version y
 abbrev SameItems : List Item → List Item → Type 0
 SameItems xs ys = map bare_item xs ≡ map bare_item ys
 
-first-again : (s : Setting) → Reader s None (maybe version_form) (maybe version_form) (λ o l. words_of (first_lines o) ≡ l) SameVersion Any
-first-again s = form-perhaps (version-again s None) (λ o l. words_of (first_lines o) ≡ l) SameVersion refl (λ x l h. h) refl (λ x y same. same)
+first-again : (s : Setting) → Reader s None (maybe version_form) (maybe version_form) (λ o l. lexemes_of (first_lines o) ≡ l) SameVersion Any
+first-again s = form-perhaps (version-again s None) (λ o l. lexemes_of (first_lines o) ≡ l) SameVersion refl (λ x l h. h) refl (λ x y same. same)
 
-abbrev program_of : Option Version × (List Item × Terminal) → Program
+abbrev program_of : Option Version × (List Item × PlacedTerminal) → Program
 program_of c = record { version = c.0; items = c.1.0; end = c.1.1.place }
 
-abbrev ReadsWhole : Reading (Option Version) → Reading (List Item) → (ℕ → Terminal) → Reading Program
-ReadsWhole r q ts = λ i v j. (c : Option Version × (List Item × Terminal))
-    × ReadsThen {C = Option Version × (List Item × Terminal)} (λ x y. (x, y)) r (ReadsThen {C = List Item × Terminal} (λ x y. (x, y)) q (ReadsOne ts (code w.End ∷ []))) i c j × (v ≡ program_of c)
+abbrev ReadsWhole : Reading (Option Version) → Reading (List Item) → (ℕ → PlacedTerminal) → Reading Program
+ReadsWhole r q ts = λ i v j. (c : Option Version × (List Item × PlacedTerminal))
+    × ReadsThen {C = Option Version × (List Item × PlacedTerminal)} (λ x y. (x, y)) r (ReadsThen {C = List Item × PlacedTerminal} (λ x y. (x, y)) q (ReadsOne ts (code w.End ∷ []))) i c j × (v ≡ program_of c)
 
-program_words : (v : Option Version) (items : List Item) (last : Terminal) → words_of (program_lines (program_of (v, (items, last)))) ≡ words_of (first_lines v) ++ words_of (all_lines (map item_lines items))
-program_words v items last = words_of_both (first_lines v) (all_lines (map item_lines items))
+program_lexemes : (v : Option Version) (items : List Item) (last : PlacedTerminal) → lexemes_of (program_lines (program_of (v, (items, last)))) ≡ lexemes_of (first_lines v) ++ lexemes_of (all_lines (map item_lines items))
+program_lexemes v items last = lexemes_of_both (first_lines v) (all_lines (map item_lines items))
 
-same_program : (v v' : Option Version) (items items' : List Item) (last last' : Terminal) → SameVersion v v' → SameItems items items' → SameButPlaces (program_of (v, (items, last))) (program_of (v', (items', last')))
+same_program : (v v' : Option Version) (items items' : List Item) (last last' : PlacedTerminal) → SameVersion v v' → SameItems items items' → SameButPlaces (program_of (v, (items, last))) (program_of (v', (items', last')))
 same_program v v' items items' last last' same alike =
     ap (λ t. record { version = t; items = map bare_item items; end = origin }) same ∙ ap (λ t. record { version = bare_version v'; items = t; end = origin }) alike
 
 -- a version, items, and the end, which isn't printed
 module _ (z : Streams) (r r' : Reading (Option Version)) (q q' : Reading (List Item))
-    (a : Again z r r' (λ o l. words_of (first_lines o) ≡ l) SameVersion Any) (b : Again z q q' (λ xs l. words_of (all_lines (map item_lines xs)) ≡ l) SameItems (NoElse z)) where
-  reads_parts : (v : Option Version) (items : List Item) (m j : ℕ) → r' 0 v m → q' m items j → (z.new j).word ≡ w.End → ReadsWhole r' q' z.new 0 (program_of (v, (items, z.new j))) (j + 1)
-  reads_parts v items m j hv hi end = ((v, (items, z.new j)), (v, (items, z.new j), m, hv, (items, z.new j, j, hi, (word_in ((z.new j).word) w.End end, refl, refl), refl), refl), refl)
+    (a : Again z r r' (λ o l. lexemes_of (first_lines o) ≡ l) SameVersion Any) (b : Again z q q' (λ xs l. lexemes_of (all_lines (map item_lines xs)) ≡ l) SameItems (NoElse z)) where
+  reads_parts : (v : Option Version) (items : List Item) (m j : ℕ) → r' 0 v m → q' m items j → (z.new j).terminal ≡ w.End → ReadsWhole r' q' z.new 0 (program_of (v, (items, z.new j))) (j + 1)
+  reads_parts v items m j hv hi end = ((v, (items, z.new j)), (v, (items, z.new j), m, hv, (items, z.new j, j, hi, (terminal_in ((z.new j).terminal) w.End end, refl, refl), refl), refl), refl)
 
   -- what is read again, for a program that is told by its parts
-  parts_again : (v : Option Version) (items : List Item) (last : Terminal) (m n : ℕ) → r 0 v m → q m items n → At z 0 0 → (j : ℕ) → Written z.new (words_of (program_lines (program_of (v, (items, last))))) 0 j → (z.new j).word ≡ w.End
+  parts_again : (v : Option Version) (items : List Item) (last : PlacedTerminal) (m n : ℕ) → r 0 v m → q m items n → At z 0 0 → (j : ℕ) → Written z.new (lexemes_of (program_lines (program_of (v, (items, last))))) 0 j → (z.new j).terminal ≡ w.End
       → (p : Program) × (k : ℕ) × ReadsWhole r' q' z.new 0 p k × SameButPlaces (program_of (v, (items, last))) p
   parts_again v items last m n hv hi at j has end =
       let x = a.again 0 v m hv in
       let y = b.again m items n hi in
-      let s = written_split z.new x.0 y.0 0 j (subst (λ t. Written z.new t 0 j) (program_words v items last ∙ words_both (words_of (first_lines v)) (words_of (all_lines (map item_lines items))) x.0 y.0 x.1 y.1) has) in
+      let s = written_split z.new x.0 y.0 0 j (subst (λ t. Written z.new t 0 j) (program_lexemes v items last ∙ lexemes_both (lexemes_of (first_lines v)) (lexemes_of (all_lines (map item_lines items))) x.0 y.0 x.1 y.1) has) in
       let first = x.2 0 s.0 at s.1 tt in
       let others = y.2 s.0 j first.3 s.2 (ap (λ k. member (code k) (code w.Else ∷ [])) end) in (
         program_of (first.0, (others.0, z.new j)),
@@ -67,11 +67,11 @@ module _ (z : Streams) (r r' : Reading (Option Version)) (q q' : Reading (List I
         same_program v first.0 items others.0 last (z.new j) first.2 others.2,
       )
 
-  whole_again : (p : Program) (j : ℕ) → ReadsWhole r q z.old 0 p j → At z 0 0 → (j' : ℕ) → Written z.new (words_of (program_lines p)) 0 j' → (z.new j').word ≡ w.End
+  whole_again : (p : Program) (j : ℕ) → ReadsWhole r q z.old 0 p j → At z 0 0 → (j' : ℕ) → Written z.new (lexemes_of (program_lines p)) 0 j' → (z.new j').terminal ≡ w.End
       → (p' : Program) × (m : ℕ) × ReadsWhole r' q' z.new 0 p' m × SameButPlaces p p'
   whole_again p j (c, (v, rest, m, hv, (items, last, n, hi, ht, e2), e1), e0) at j' has end =
-      let p_is : p ≡ program_of (v, (items, last)) = e0 ∙ ap program_of (e1 ∙ ap {B = Option Version × (List Item × Terminal)} (λ t. (v, t)) e2) in
-      let x = parts_again v items last m n hv hi at j' (subst (λ t. Written z.new (words_of (program_lines t)) 0 j') p_is has) end in
+      let p_is : p ≡ program_of (v, (items, last)) = e0 ∙ ap program_of (e1 ∙ ap {B = Option Version × (List Item × PlacedTerminal)} (λ t. (v, t)) e2) in
+      let x = parts_again v items last m n hv hi at j' (subst (λ t. Written z.new (lexemes_of (program_lines t)) 0 j') p_is has) end in
       (x.0, x.1, x.2, subst (λ t. SameButPlaces t x.0) (sym p_is) x.3)
 
 pub reads_again : ReadsAgain

@@ -7,7 +7,7 @@ pub fn texts_have_bit_texts()
     ensures { laws.TextsHaveBitTexts }
 {}
 
-/// Tokens that are the canonical words of a program, and then the end, spell that program, but for places, within the limits within
+/// Tokens that are the canonical lexemes of a program, and then the end, spell that program, but for places, within the limits within
 /// which it was read.
 pub fn reads_again()
     ensures { laws.ReadsAgain }

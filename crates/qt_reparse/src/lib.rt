@@ -1,6 +1,6 @@
-//! Canonical words read again: the theorem that printing keeps a program.
+//! Canonical lexemes read again: the theorem that printing keeps a program.
 //!
-//! Where tokens spell a program within limits, tokens that are the program's canonical words, and then the end, spell it again
+//! Where tokens spell a program within limits, tokens that are the program's canonical lexemes, and then the end, spell it again
 //! within the same limits, but for places: [`laws`]. It asks that each bit string is spelled as one, which holds of each text.
 //! The proof goes by the forms of the grammar. `proofs/Again.antt` has one lemma for each way to build a form, on what it reads,
 //! and `proofs/Forms.antt` says the same of forms; each production's proof is the same expression as the production. The forms

@@ -6,24 +6,24 @@ use Rattle.qt_lex.specs.declared.tokens.Token.{Token}
 use Rattle.qt_lex.specs.Bytes.{byte}
 use Rattle.qt_lex.specs.Tokens.{GivesTokens}
 use Rattle.qt_lex.proofs.Exact.{tokens_one, tokens_or_fault}
-use Rattle.qt_words.specs.Terminals.{terminals, stream}
+use Rattle.qt_terminals.specs.Terminals.{terminals, stream}
 use Rattle.qt_grammar.specs.Reading.{language_limits}
 use Rattle.qt_grammar.specs.Promise.{SpellsProgram, Parses}
 use Rattle.qt_grammar.proofs.Theorems.{one_program, one_parse, spelled_is_parsed}
 use Rattle.qt_print.specs.Programs.{program_lines}
 use Rattle.qt_print.specs.Text.{canonical}
 use Rattle.qt_wording.specs.Faithful.{total_length}
-use Rattle.qt_wording.specs.Written.{words_of}
+use Rattle.qt_wording.specs.Written.{lexemes_of}
 use Rattle.qt_wording.specs.Places.{SameButPlaces}
 use Rattle.qt_literals.proofs.Faithful.{all_tokens_faithful}
 use Rattle.qt_literals.proofs.Lengths.{within_the_text}
 use Rattle.qt_literals.proofs.Numbers.{numbers_again}
-use Rattle.qt_relex.proofs.Terminals.{give_their_words}
+use Rattle.qt_relex.proofs.Terminals.{give_their_lexemes}
 use Rattle.qt_relex.proofs.Counting.{count_operators}
 use Rattle.qt_reparse.proofs.Law.{reads_again}
 use Rattle.qt_reparse.proofs.Texts.{texts_have_bit_texts}
-use Rattle.qt_extent.proofs.Levels.{spelled as words_spelled, short}
-use Rattle.qt_round_trip.specs.Laws.{IsReadAgain, RoundTrip, LexesAgain, ParsesAgain, KeepsTheProgram, IsBounded, CanBeRead}
+use Rattle.qt_extent.proofs.Levels.{spelled as lexemes_spelled, short}
+use Rattle.qt_round_trip.specs.Laws.{IsReadAgain, RoundTrip, LexesAgain, ParsesAgain, KeepsTheTree, IsBounded, CanBeRead}
 use Rattle.qt_round_trip.proofs.SameLines.{same_text}
 
 pub round_trip : RoundTrip
@@ -31,11 +31,11 @@ round_trip text file tokens p is other =
     let ts = stream (terminals text tokens) in
     let faithful = all_tokens_faithful text file tokens is.given in
     let lines = program_lines p in
-    let given = give_their_words lines (words_spelled ts faithful numbers_again language_limits p is.spelled.spells) other in
+    let given = give_their_lexemes lines (lexemes_spelled ts faithful numbers_again language_limits p is.spelled.spells) other in
     let ws = stream (terminals (canonical p) given.0) in
     let old = count_operators text file tokens is.given in
     let new = count_operators (canonical p) other given.0 given.1 in
-    let found = reads_again ts ws old.0 new.0 (old.1 ∙ sym new.1) faithful (texts_have_bit_texts text tokens) numbers_again language_limits p is.spelled.spells (length (words_of lines)) given.2.written given.2.end in
+    let found = reads_again ts ws old.0 new.0 (old.1 ∙ sym new.1) faithful (texts_have_bit_texts text tokens) numbers_again language_limits p is.spelled.spells (length (lexemes_of lines)) given.2.written given.2.end in
     record {
       tokens = given.0;
       given = given.1;
@@ -66,7 +66,7 @@ parses_again text file tokens p is other written given answer known parses =
     let right : Parses (stream all) language_limits (Ok found.program) = spelled_is_parsed all language_limits found.program spelled in
     (found.program, one_parse all language_limits answer (Ok found.program) known (λ e. absurd (cc e)) parses right, found.same, found.text)
 
-pub keeps_the_program : KeepsTheProgram
+pub keeps_the_program : KeepsTheTree
 keeps_the_program text file tokens p other written q is its =
     let found = round_trip text file tokens p is other in
     let one = its_tokens p other written its.given found in

@@ -8,7 +8,7 @@ use Rattle.qt_tree.specs.declared.program.Program.{Program}
 use Rattle.qt_tree.specs.declared.program.Version.{Version}
 use Rattle.qt_tree.specs.declared.program.Item.{Item}
 use Rattle.qt_tree.specs.declared.program.Item.TheVariants as i
-use Rattle.qt_print.specs.Statements.{Line, block, two_blocks, condition_words, for_words, all_lines, form_step, form_lines, statement_lines}
+use Rattle.qt_print.specs.Statements.{Line, block, two_blocks, condition_lexemes, for_lexemes, all_lines, form_step, form_lines, statement_lines}
 use Rattle.qt_print.specs.Programs.{gate_head, gate_statement_lines, definition_head, item_lines, first_lines, program_lines}
 use Rattle.qt_print.specs.Text.{lines_text, canonical}
 use Rattle.qt_print.proofs.Forms.{lined, form_rolls}
@@ -31,12 +31,12 @@ module _ {X Y : Type 0} (f : X → StatementForm) (g : Y → Statement) (kept : 
   filled = map-StatementForm X Y StatementForm Statement f g
 
   same_step : (y : o.StatementForm-F X Y) → form_step (lined (bared (filled y))) ≡ form_step (lined (filled y))
-  same_step (o.If condition body None) = ap (block (condition_words (codes "if") condition)) (each_kept body)
+  same_step (o.If condition body None) = ap (block (condition_lexemes (codes "if") condition)) (each_kept body)
   same_step (o.If condition body (Some otherwise)) =
-      ap (λ t. two_blocks (condition_words (codes "if") condition) t (map statement_lines (map bare_statement (map g otherwise)))) (each_kept body)
-      ∙ ap (two_blocks (condition_words (codes "if") condition) (map statement_lines (map g body))) (each_kept otherwise)
-  same_step (o.While condition body) = ap (block (condition_words (codes "while") condition)) (each_kept body)
-  same_step (o.For scalar text values body) = ap (block (for_words scalar text values)) (each_kept body)
+      ap (λ t. two_blocks (condition_lexemes (codes "if") condition) t (map statement_lines (map bare_statement (map g otherwise)))) (each_kept body)
+      ∙ ap (two_blocks (condition_lexemes (codes "if") condition) (map statement_lines (map g body))) (each_kept otherwise)
+  same_step (o.While condition body) = ap (block (condition_lexemes (codes "while") condition)) (each_kept body)
+  same_step (o.For scalar text values body) = ap (block (for_lexemes scalar text values)) (each_kept body)
   same_step _ = refl
 
   form_kept : (y : o.StatementForm-F X Y) → KeptForm (roll-StatementForm (filled y))

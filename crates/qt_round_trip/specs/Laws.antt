@@ -4,7 +4,7 @@ use Rattle.qt_tree.specs.declared.place.Place.{Place}
 use Rattle.qt_tree.specs.declared.program.Program.{Program}
 use Rattle.qt_lex.specs.declared.tokens.Token.{Token}
 use Rattle.qt_lex.specs.Tokens.{GivesTokens, FailsAt}
-use Rattle.qt_words.specs.Terminals.{terminals, stream}
+use Rattle.qt_terminals.specs.Terminals.{terminals, stream}
 use Rattle.qt_grammar.specs.declared.refusal.Refusal.{Refusal}
 use Rattle.qt_grammar.specs.declared.refusal.Refusal.TheVariants.{OutOfMemory}
 use Rattle.qt_grammar.specs.Reading.{language_limits}
@@ -13,7 +13,7 @@ use Rattle.qt_print.specs.Text.{canonical}
 use Rattle.qt_wording.specs.Places.{SameButPlaces}
 
 -- the text gives these tokens, and they spell this program within the limits, and no other
-pub record IsTextOf (text : List ℕ) (file : ℕ) (tokens : List Token) (p : Program) : Type 0 where
+pub record ReadsAs (text : List ℕ) (file : ℕ) (tokens : List Token) (p : Program) : Type 0 where
   pub given : GivesTokens text file tokens
   pub spelled : OnlyProgram (stream (terminals text tokens)) language_limits p
 
@@ -29,31 +29,31 @@ pub record IsReadAgain (file : ℕ) (p : Program) : Type 0 where
 
 -- the program of a text is read again from its canonical text, whatever the number of that text
 abbrev pub RoundTrip : Type 0
-RoundTrip = (text : List ℕ) (file : ℕ) (tokens : List Token) (p : Program) → IsTextOf text file tokens p → (other : ℕ) → IsReadAgain other p
+RoundTrip = (text : List ℕ) (file : ℕ) (tokens : List Token) (p : Program) → ReadsAs text file tokens p → (other : ℕ) → IsReadAgain other p
 
 -- no character of the canonical text is refused
 abbrev pub LexesAgain : Type 0
-LexesAgain = (text : List ℕ) (file : ℕ) (tokens : List Token) (p : Program) → IsTextOf text file tokens p → (other : ℕ) (place : Place) → FailsAt (canonical p) other place → ⊥
+LexesAgain = (text : List ℕ) (file : ℕ) (tokens : List Token) (p : Program) → ReadsAs text file tokens p → (other : ℕ) (place : Place) → FailsAt (canonical p) other place → ⊥
 
 -- of the tokens of the canonical text each right answer of a parser, but for want of memory, is the same program but for places
 abbrev pub ParsesAgain : Type 0
-ParsesAgain = (text : List ℕ) (file : ℕ) (tokens : List Token) (p : Program) → IsTextOf text file tokens p
+ParsesAgain = (text : List ℕ) (file : ℕ) (tokens : List Token) (p : Program) → ReadsAs text file tokens p
     → (other : ℕ) (written : List Token) → GivesTokens (canonical p) other written
     → (answer : Result Program Refusal) → answer ≢ Err OutOfMemory → Parses (stream (terminals (canonical p) written)) language_limits answer
     → (q : Program) × (answer ≡ Ok q) × SameButPlaces p q × (canonical q ≡ canonical p)
 
 -- whatever program the canonical text is that of, it is the same but for places
-abbrev pub KeepsTheProgram : Type 0
-KeepsTheProgram = (text : List ℕ) (file : ℕ) (tokens : List Token) (p : Program) (other : ℕ) (written : List Token) (q : Program)
-    → IsTextOf text file tokens p → IsTextOf (canonical p) other written q → SameButPlaces p q
+abbrev pub KeepsTheTree : Type 0
+KeepsTheTree = (text : List ℕ) (file : ℕ) (tokens : List Token) (p : Program) (other : ℕ) (written : List Token) (q : Program)
+    → ReadsAs text file tokens p → ReadsAs (canonical p) other written q → SameButPlaces p q
 
 -- the canonical text of the program of a text has at most 500 bytes for each byte of the text
 abbrev pub IsBounded : Type 0
-IsBounded = (text : List ℕ) (file : ℕ) (tokens : List Token) (p : Program) → IsTextOf text file tokens p → length (canonical p) ≤ 500 * length text
+IsBounded = (text : List ℕ) (file : ℕ) (tokens : List Token) (p : Program) → ReadsAs text file tokens p → length (canonical p) ≤ 500 * length text
 
 -- so it has at most 2^31 bytes, which a lexer takes, where the text has at most 2^20
 abbrev pub CanBeRead : Type 0
-CanBeRead = (text : List ℕ) (file : ℕ) (tokens : List Token) (p : Program) → IsTextOf text file tokens p → length text ≤ 2 ^ 20 → length (canonical p) ≤ 2 ^ 31
+CanBeRead = (text : List ℕ) (file : ℕ) (tokens : List Token) (p : Program) → ReadsAs text file tokens p → length text ≤ 2 ^ 20 → length (canonical p) ≤ 2 ^ 31
 
 -- programs that are the same but for places have the same canonical text
 abbrev pub SameText : Type 0

@@ -18,7 +18,7 @@ pub fn read_without_refusal()
 /// Whatever program a canonical text is read as, it is the program that was printed, but for places.
 #[tactic(auto, using(crate::proofs::Again::keeps_the_program))]
 pub fn keeps_the_program()
-    ensures { law.KeepsTheProgram }
+    ensures { law.KeepsTheTree }
 {}
 
 /// The canonical text of the program of a text has at most 500 bytes for each byte of that text.

@@ -5,16 +5,16 @@ use qt_expr::expression::{
     set, size,
 };
 use qt_expr::nesting::Nesting;
+use qt_expr::one_token::{label, names};
 use qt_expr::parse_expr::parse_expr;
 use qt_expr::refusal::ParseRefusal;
-use qt_expr::sign::{label, names};
 use qt_grammar::refusal::Refusal;
 use qt_lex::lexer::lex;
 use qt_lex::tokens::Token;
-use qt_tree::expression::{BinaryOp, Expr, Index, Range, Scalar, UnaryOperator};
+use qt_terminals::stream::TokenStream;
+use qt_tree::expression::{Expr, Index, InfixOperator, PrefixOperator, Range, Scalar};
 use qt_tree::place::Place;
 use qt_tree::refusal::Feature;
-use qt_words::stream::TokenStream;
 use sqlite_items::Items;
 use std::alloc::{AllocError, Global};
 use std::process::Abort;
@@ -157,35 +157,35 @@ const LEFT_OUT: [(&str, u32, u32, Feature); 12] = [
     ("(2.5)", 64, 2, Feature::Decimal),
 ];
 
-fn sign_of(operator: BinaryOp) -> &'static str {
+fn sign_of(operator: InfixOperator) -> &'static str {
     match operator {
-        BinaryOp::LogicalOr => "||",
-        BinaryOp::LogicalAnd => "&&",
-        BinaryOp::Or => "|",
-        BinaryOp::Xor => "^",
-        BinaryOp::And => "&",
-        BinaryOp::Eq => "==",
-        BinaryOp::Ne => "!=",
-        BinaryOp::Lt => "<",
-        BinaryOp::Le => "<=",
-        BinaryOp::Gt => ">",
-        BinaryOp::Ge => ">=",
-        BinaryOp::Shl => "<<",
-        BinaryOp::Shr => ">>",
-        BinaryOp::Add => "+",
-        BinaryOp::Sub => "-",
-        BinaryOp::Mul => "*",
-        BinaryOp::Div => "/",
-        BinaryOp::Rem => "%",
-        BinaryOp::Pow => "**",
+        InfixOperator::LogicalOr => "||",
+        InfixOperator::LogicalAnd => "&&",
+        InfixOperator::Or => "|",
+        InfixOperator::Xor => "^",
+        InfixOperator::And => "&",
+        InfixOperator::Eq => "==",
+        InfixOperator::Ne => "!=",
+        InfixOperator::Lt => "<",
+        InfixOperator::Le => "<=",
+        InfixOperator::Gt => ">",
+        InfixOperator::Ge => ">=",
+        InfixOperator::Shl => "<<",
+        InfixOperator::Shr => ">>",
+        InfixOperator::Add => "+",
+        InfixOperator::Sub => "-",
+        InfixOperator::Mul => "*",
+        InfixOperator::Div => "/",
+        InfixOperator::Rem => "%",
+        InfixOperator::Pow => "**",
     }
 }
 
-fn mark_of(operator: UnaryOperator) -> &'static str {
+fn mark_of(operator: PrefixOperator) -> &'static str {
     match operator {
-        UnaryOperator::Not => "!",
-        UnaryOperator::Turn => "~",
-        UnaryOperator::Neg => "-",
+        PrefixOperator::Not => "!",
+        PrefixOperator::Turn => "~",
+        PrefixOperator::Neg => "-",
     }
 }
 
@@ -219,7 +219,7 @@ fn write_tree(out: &mut String, alloc: Global, tree: &Expr, depth: u32) -> Resul
             write_between(out, alloc, "{", left.get(), sign_of(*operator), depth)?;
             write_between(out, alloc, "", right.get(), "}", depth)
         }
-        other => write_word(out, alloc, other, depth),
+        other => write_terminal(out, alloc, other, depth),
     }
 }
 
@@ -245,9 +245,14 @@ fn write_between(
     out.push_str(behind)
 }
 
-/// Writes what begins with a word.
+/// Writes what begins with a terminal.
 #[cycle(written)]
-fn write_word(out: &mut String, alloc: Global, tree: &Expr, depth: u32) -> Result<(), AllocError> {
+fn write_terminal(
+    out: &mut String,
+    alloc: Global,
+    tree: &Expr,
+    depth: u32,
+) -> Result<(), AllocError> {
     if depth == 0 {
         return out.push_str("..");
     }
@@ -287,14 +292,14 @@ fn write_scalar(
     if depth == 0 {
         return out.push_str("..");
     }
-    let (word, size) = match scalar {
+    let (terminal, size) = match scalar {
         Scalar::Bool => return out.push_str("bool"),
         Scalar::Bit { size } => ("bit", size),
         Scalar::Int { size } => ("int", size),
         Scalar::Uint { size } => ("uint", size),
         Scalar::Angle { size } => ("angle", size),
     };
-    out.push_str(word)?;
+    out.push_str(terminal)?;
     match size {
         None => Ok(()),
         Some(size) => write_between(out, alloc, "[", size.get(), "]", depth - 1),

@@ -341,13 +341,13 @@ fn stoppers(rt: HostRuntime) -> Result<(), Fail> {
 
 #[test]
 fn features_left_out(rt: HostRuntime) -> Result<(), Fail> {
-    for (word, feature) in FEATURES {
-        let statement = format!(in rt.alloc(); "x q; {word}")?;
+    for (terminal, feature) in FEATURES {
+        let statement = format!(in rt.alloc(); "x q; {terminal}")?;
         let want = ParseRefusal::NotInProfile(column(6), feature);
-        assert_eq!(rt; refused(rt.alloc(), &statement)?, Some(want), "{word}");
-        let value = format!(in rt.alloc(); "x = {word};")?;
+        assert_eq!(rt; refused(rt.alloc(), &statement)?, Some(want), "{terminal}");
+        let value = format!(in rt.alloc(); "x = {terminal};")?;
         let want = ParseRefusal::NotInProfile(column(5), feature);
-        assert_eq!(rt; refused(rt.alloc(), &value)?, Some(want), "{word}");
+        assert_eq!(rt; refused(rt.alloc(), &value)?, Some(want), "{terminal}");
     }
     Ok(())
 }

@@ -1,4 +1,4 @@
-use crate::expression::{Expr, UnaryOperator};
+use crate::expression::{Expr, PrefixOperator};
 use crate::label::{Label, Setting};
 use crate::lengths::Lengths;
 use crate::place::Place;
@@ -24,7 +24,7 @@ fn named(alloc: Global, name: &str) -> Result<Expr, OutOfMemory> {
 
 fn negated(alloc: Global, operand: Expr) -> Result<Expr, OutOfMemory> {
     Ok(Expr::Unary {
-        operator: UnaryOperator::Not,
+        operator: PrefixOperator::Not,
         operand: Boxed::new(alloc, operand)?,
     })
 }

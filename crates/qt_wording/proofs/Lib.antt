@@ -1,4 +1,4 @@
 pub mod Tables
 pub mod Lists
-pub mod Words
+pub mod Lexemes
 pub mod Bare

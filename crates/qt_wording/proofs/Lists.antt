@@ -1,7 +1,7 @@
--- The words and the lines of a list that gets one more at its end.
+-- The lexemes and the lines of a list that gets one more at its end.
 use Rattle.std.proofs.Common.{◌≡◌, List, [], ◌∷◌, ◌++◌, map, sym, ◌∙◌, ap, append_assoc}
 use Rattle.std.proofs.lemmas.List.{append-nil}
-use Rattle.qt_print.specs.Words.{Word, each_behind, separated, joined}
+use Rattle.qt_print.specs.Lexemes.{Lexeme, each_behind, separated, joined}
 use Rattle.qt_print.specs.Statements.{Line, all_lines}
 
 -- a list that isn't empty
@@ -13,19 +13,19 @@ pub filled_push : {A : Type 0} (xs : List A) (x : A) → Filled (xs ++ x ∷ [])
 filled_push [] x = tt
 filled_push (y ∷ ys) x = tt
 
-module _ {A : Type 0} (words : A → List Word) where
-  each_push : (between : Word) (xs : List A) (x : A) → each_behind between (map words (xs ++ x ∷ [])) ≡ each_behind between (map words xs) ++ (between ∷ words x)
-  each_push between [] x = ap (λ t. between ∷ t) (append-nil (words x))
+module _ {A : Type 0} (lexemes : A → List Lexeme) where
+  each_push : (between : Lexeme) (xs : List A) (x : A) → each_behind between (map lexemes (xs ++ x ∷ [])) ≡ each_behind between (map lexemes xs) ++ (between ∷ lexemes x)
+  each_push between [] x = ap (λ t. between ∷ t) (append-nil (lexemes x))
   each_push between (y ∷ ys) x =
-      ap (λ t. between ∷ t) (ap (λ t. words y ++ t) (each_push between ys x) ∙ sym (append_assoc (words y) (each_behind between (map words ys)) (between ∷ words x)))
+      ap (λ t. between ∷ t) (ap (λ t. lexemes y ++ t) (each_push between ys x) ∙ sym (append_assoc (lexemes y) (each_behind between (map lexemes ys)) (between ∷ lexemes x)))
 
-  pub separated_push : (between : Word) (xs : List A) (x : A) → Filled xs → separated between (map words (xs ++ x ∷ [])) ≡ separated between (map words xs) ++ (between ∷ words x)
+  pub separated_push : (between : Lexeme) (xs : List A) (x : A) → Filled xs → separated between (map lexemes (xs ++ x ∷ [])) ≡ separated between (map lexemes xs) ++ (between ∷ lexemes x)
   separated_push between [] x h = absurd h
-  separated_push between (y ∷ ys) x h = ap (λ t. words y ++ t) (each_push between ys x) ∙ sym (append_assoc (words y) (each_behind between (map words ys)) (between ∷ words x))
+  separated_push between (y ∷ ys) x h = ap (λ t. lexemes y ++ t) (each_push between ys x) ∙ sym (append_assoc (lexemes y) (each_behind between (map lexemes ys)) (between ∷ lexemes x))
 
-  pub joined_push : (xs : List A) (x : A) → joined (map words (xs ++ x ∷ [])) ≡ joined (map words xs) ++ words x
-  joined_push [] x = append-nil (words x)
-  joined_push (y ∷ ys) x = ap (λ t. words y ++ t) (joined_push ys x) ∙ sym (append_assoc (words y) (joined (map words ys)) (words x))
+  pub joined_push : (xs : List A) (x : A) → joined (map lexemes (xs ++ x ∷ [])) ≡ joined (map lexemes xs) ++ lexemes x
+  joined_push [] x = append-nil (lexemes x)
+  joined_push (y ∷ ys) x = ap (λ t. lexemes y ++ t) (joined_push ys x) ∙ sym (append_assoc (lexemes y) (joined (map lexemes ys)) (lexemes x))
 
 module _ {A : Type 0} (lines : A → List Line) where
   pub lines_push : (xs : List A) (x : A) → all_lines (map lines (xs ++ x ∷ [])) ≡ all_lines (map lines xs) ++ lines x

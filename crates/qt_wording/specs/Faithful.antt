@@ -2,35 +2,35 @@
 -- what a number may grow. OpenQASM 3.0 live specification, "Identifiers", "Literals", "Version string" and "Included files".
 use Rattle.std.specs.Prelude.{◌≡◌, ℕ, zero, suc, ◌+◌, ◌≤◌, ◌<◌, ◌^◌, ◌⊎◌, length}
 use Rattle.std.specs.Fmt.{decimal}
-use Rattle.qt_words.specs.declared.word.Word.TheVariants as w
-use Rattle.qt_words.specs.Terminals.{Terminal}
-use Rattle.qt_words.specs.Literals.{integer_of, bits_of, bit_count, inside_quotes}
+use Rattle.qt_terminals.specs.declared.terminal.Terminal.TheVariants as w
+use Rattle.qt_terminals.specs.Terminals.{PlacedTerminal}
+use Rattle.qt_terminals.specs.Literals.{integer_of, bits_of, bit_count, inside_quotes}
 use Rattle.qt_print.specs.declared.role.Role.TheVariants as r
-use Rattle.qt_print.specs.Words.{word, name, integer, bits, quotation}
+use Rattle.qt_print.specs.Lexemes.{lexeme, name, integer, bits, quotation}
 use Rattle.qt_print.specs.Literals.{bit_text, quoted}
 use Rattle.qt_wording.specs.Spelling.{IsSpelled}
 
 -- a bit string, by the digits that are printed of it
-pub record IsBitsAgain (t : Terminal) : Type 0 where
+pub record IsBitsAgain (t : PlacedTerminal) : Type 0 where
   pub spelled : IsSpelled (bits (bits_of t.spelling) (bit_count t.spelling))
   pub value : bits_of (bit_text (bits_of t.spelling) (bit_count t.spelling)) ≡ bits_of t.spelling
   pub count : bit_count (bit_text (bits_of t.spelling) (bit_count t.spelling)) ≡ bit_count t.spelling
   pub short : length (bit_text (bits_of t.spelling) (bit_count t.spelling)) ≤ length t.spelling
 
 -- a text in quotes, by what stands between them
-pub record IsQuotedAgain (t : Terminal) : Type 0 where
+pub record IsQuotedAgain (t : PlacedTerminal) : Type 0 where
   pub spelled : IsSpelled (quotation (inside_quotes t.spelling))
   pub inside : inside_quotes (quoted (inside_quotes t.spelling)) ≡ inside_quotes t.spelling
   pub short : length (quoted (inside_quotes t.spelling)) ≤ length t.spelling
 
 -- what printing keeps of a token
-pub record IsFaithful (t : Terminal) : Type 0 where
+pub record IsFaithful (t : PlacedTerminal) : Type 0 where
   -- each token but the end of the text has a byte
-  pub some : (t.word ≡ w.End → ⊥) → 1 ≤ length t.spelling
-  pub name : t.word ≡ w.Name → IsSpelled (name t.spelling)
-  pub decimal : t.word ≡ w.Decimal → IsSpelled (word r.Decimal t.spelling)
-  pub bits : t.word ≡ w.BitText → IsBitsAgain t
-  pub quotation : (t.word ≡ w.Text) ⊎ (t.word ≡ w.BitText) → IsQuotedAgain t
+  pub some : (t.terminal ≡ w.End → ⊥) → 1 ≤ length t.spelling
+  pub name : t.terminal ≡ w.Name → IsSpelled (name t.spelling)
+  pub decimal : t.terminal ≡ w.Decimal → IsSpelled (lexeme r.Decimal t.spelling)
+  pub bits : t.terminal ≡ w.BitText → IsBitsAgain t
+  pub quotation : (t.terminal ≡ w.Text) ⊎ (t.terminal ≡ w.BitText) → IsQuotedAgain t
 
 -- a whole number, by its decimal digits
 pub record IsNumberAgain (n : ℕ) : Type 0 where
@@ -42,6 +42,6 @@ abbrev pub AreNumbersAgain : Type 0
 AreNumbersAgain = (n : ℕ) → n < 2 ^ 64 → IsNumberAgain n
 
 -- the bytes of the first n tokens of a stream
-abbrev pub total_length : (ℕ → Terminal) → ℕ → ℕ
+abbrev pub total_length : (ℕ → PlacedTerminal) → ℕ → ℕ
 total_length ts zero = 0
 total_length ts (suc n) = total_length ts n + length ((ts n).spelling)

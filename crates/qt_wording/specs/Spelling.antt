@@ -1,18 +1,18 @@
--- Which token each printed word is: its kind, its word in the grammar, and that its bytes are spelled as a token of that kind.
+-- Which token each printed lexeme is: its kind, its lexeme in the grammar, and that its bytes are spelled as a token of that kind.
 -- OpenQASM 3.0 live specification, the lexical grammar in its appendix.
 use Rattle.std.specs.Prelude.{◌≡◌, ℕ, ◌⊎◌, List, [], ◌∷◌, length, codes}
 use Rattle.qt_lex.specs.declared.tokens.Kind.{Kind}
 use Rattle.qt_lex.specs.declared.tokens.Kind.TheVariants as kind
 use Rattle.qt_lex.specs.Bytes.{byte, reserved_words, symbols}
 use Rattle.qt_lex.specs.Tokens.{IsToken}
-use Rattle.qt_words.specs.declared.word.Word.{Word as GrammarWord}
-use Rattle.qt_words.specs.Words.{word_of}
+use Rattle.qt_terminals.specs.declared.terminal.Terminal.{Terminal}
+use Rattle.qt_terminals.specs.Alphabet.{terminal_of}
 use Rattle.qt_print.specs.declared.role.Role.{Role}
 use Rattle.qt_print.specs.declared.role.Role.TheVariants as r
-use Rattle.qt_print.specs.Words.{Word}
+use Rattle.qt_print.specs.Lexemes.{Lexeme}
 use Rattle.qt_print.specs.Statements.{Line}
 
--- the kind of token that a word of this role is
+-- the kind of token that a lexeme of this role is
 abbrev pub kind_of : Role → Kind
 kind_of r.Name = kind.Name
 kind_of r.Integer = kind.Integer
@@ -25,16 +25,16 @@ kind_of r.Else = kind.Reserved
 kind_of r.In = kind.Reserved
 kind_of _ = kind.Symbol
 
--- what the grammar sees of a printed word
-abbrev pub meaning : Word → GrammarWord
-meaning word = word_of (kind_of word.role) word.text
+-- what the grammar sees of a printed lexeme
+abbrev pub meaning : Lexeme → Terminal
+meaning lexeme = terminal_of (kind_of lexeme.role) lexeme.text
 
 -- a text is one of these
 abbrev pub IsAmong : List (List ℕ) → List ℕ → Type 0
 IsAmong [] text = ⊥
 IsAmong (one ∷ others) text = (text ≡ one) ⊎ IsAmong others text
 
--- the bytes are, by themselves, a token of the role's kind. A sign or bracket is one of the few of its role
+-- the bytes are, by themselves, a token of the role's kind. A exactly or bracket is one of the few of its role
 abbrev pub IsSpelledAs : Role → List ℕ → Type 0
 IsSpelledAs r.Name text = IsToken (byte text) kind.Name 0 (length text)
 IsSpelledAs r.Integer text = IsToken (byte text) kind.Integer 0 (length text)
@@ -57,14 +57,14 @@ IsSpelledAs r.ClosingBrace text = IsAmong (codes "}" ∷ []) text
 IsSpelledAs r.BodyStart text = IsAmong (codes "{" ∷ []) text
 IsSpelledAs r.BodyEnd text = IsAmong (codes "}" ∷ []) text
 
-abbrev pub IsSpelled : Word → Type 0
-IsSpelled word = IsSpelledAs word.role word.text
+abbrev pub IsSpelled : Lexeme → Type 0
+IsSpelled lexeme = IsSpelledAs lexeme.role lexeme.text
 
--- each of these words, each word of these lines
-abbrev pub AllWords : (Word → Type 0) → List Word → Type 0
-AllWords P [] = Unit {0}
-AllWords P (word ∷ words) = P word × AllWords P words
+-- each of these lexemes, each lexeme of these lines
+abbrev pub AllLexemes : (Lexeme → Type 0) → List Lexeme → Type 0
+AllLexemes P [] = Unit {0}
+AllLexemes P (lexeme ∷ lexemes) = P lexeme × AllLexemes P lexemes
 
-abbrev pub AllLines : (Word → Type 0) → List Line → Type 0
+abbrev pub AllLines : (Lexeme → Type 0) → List Line → Type 0
 AllLines P [] = Unit {0}
-AllLines P (line ∷ lines) = AllWords P line.words × AllLines P lines
+AllLines P (line ∷ lines) = AllLexemes P line.lexemes × AllLines P lines

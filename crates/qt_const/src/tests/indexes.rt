@@ -2,7 +2,7 @@ use super::{
     before, first_length, gives, in_one_bracket, in_two_brackets, indexed, length, name, place,
     range, refuses_for, refuses_name, refuses_type, slice, value, whole,
 };
-use qt_tree::expression::{Expr, Index, UnaryOperator};
+use qt_tree::expression::{Expr, Index, PrefixOperator};
 use qt_tree::refusal::Cause;
 use qt_value::types::ValueType;
 use sqlite_items::Items;
@@ -28,7 +28,7 @@ fn names(rt: HostRuntime) -> Result<(), Fail> {
         value(ValueType::Bit(1), 1),
     )?;
     refuses_for(&rt, alloc, place(alloc, "b", whole(4)), Cause::Range)?;
-    let last = place(alloc, "i", before(alloc, UnaryOperator::Neg, whole(1)));
+    let last = place(alloc, "i", before(alloc, PrefixOperator::Neg, whole(1)));
     gives(&rt, alloc, last, value(ValueType::Bit(1), 1))
 }
 
@@ -62,7 +62,7 @@ fn lengths(rt: HostRuntime) -> Result<(), Fail> {
         value(ValueType::Uint(64), 3),
     )?;
     refuses_for(&rt, alloc, length(alloc, "z", whole(2)), Cause::Range)?;
-    let below = before(alloc, UnaryOperator::Neg, whole(1));
+    let below = before(alloc, PrefixOperator::Neg, whole(1));
     refuses_for(&rt, alloc, length(alloc, "z", below), Cause::Range)?;
     refuses_type(&rt, alloc, first_length(alloc, "n"))?;
     refuses_name(&rt, alloc, first_length(alloc, "m"), "m")

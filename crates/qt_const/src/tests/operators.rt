@@ -2,7 +2,7 @@ use super::{
     angle, before, between, by_zero, call, cast, digits, gives, name, no, over, pi, refuses_for,
     refuses_name, refuses_type, uint, value, whole, yes,
 };
-use qt_tree::expression::{BinaryOp, Scalar, UnaryOperator};
+use qt_tree::expression::{InfixOperator, PrefixOperator, Scalar};
 use qt_tree::refusal::Cause;
 use qt_value::types::ValueType;
 use std::test::Fail;
@@ -10,19 +10,19 @@ use std::test::Fail;
 #[test]
 fn operators(rt: HostRuntime) -> Result<(), Fail> {
     let alloc = rt.alloc();
-    let sum = between(alloc, BinaryOp::Add, name(alloc, "i"), whole(7));
+    let sum = between(alloc, InfixOperator::Add, name(alloc, "i"), whole(7));
     gives(&rt, alloc, sum, value(ValueType::Int(64), 2))?;
     let large = 9_223_372_036_854_775_808;
     gives(&rt, alloc, whole(large), value(ValueType::Uint(64), large))?;
-    let turned = before(alloc, UnaryOperator::Turn, name(alloc, "b"));
+    let turned = before(alloc, PrefixOperator::Turn, name(alloc, "b"));
     gives(&rt, alloc, turned, value(ValueType::Bit(4), 9))?;
-    let variable = between(alloc, BinaryOp::LogicalAnd, no(), name(alloc, "n"));
+    let variable = between(alloc, InfixOperator::LogicalAnd, no(), name(alloc, "n"));
     refuses_for(&rt, alloc, variable, Cause::Variable)?;
     let unevaluated = over(alloc, whole(1), whole(0));
-    let decided = between(alloc, BinaryOp::LogicalAnd, no(), unevaluated);
+    let decided = between(alloc, InfixOperator::LogicalAnd, no(), unevaluated);
     gives(&rt, alloc, decided, value(ValueType::Bool, 0))?;
     let evaluated = over(alloc, whole(1), whole(0));
-    let open = between(alloc, BinaryOp::LogicalOr, no(), evaluated);
+    let open = between(alloc, InfixOperator::LogicalOr, no(), evaluated);
     refuses_for(&rt, alloc, open, Cause::Divide)
 }
 
@@ -96,12 +96,12 @@ fn sizes_out_of_range(rt: HostRuntime) -> Result<(), Fail> {
 #[test]
 fn sides_that_decide(rt: HostRuntime) -> Result<(), Fail> {
     let alloc = rt.alloc();
-    let none = between(alloc, BinaryOp::Eq, by_zero(alloc), whole(0));
-    let decided = between(alloc, BinaryOp::LogicalOr, yes(), none);
+    let none = between(alloc, InfixOperator::Eq, by_zero(alloc), whole(0));
+    let decided = between(alloc, InfixOperator::LogicalOr, yes(), none);
     gives(&rt, alloc, decided, value(ValueType::Bool, 1))?;
-    let none = between(alloc, BinaryOp::Eq, by_zero(alloc), whole(0));
-    let open = between(alloc, BinaryOp::LogicalAnd, yes(), none);
+    let none = between(alloc, InfixOperator::Eq, by_zero(alloc), whole(0));
+    let open = between(alloc, InfixOperator::LogicalAnd, yes(), none);
     refuses_for(&rt, alloc, open, Cause::Divide)?;
-    let mistyped = between(alloc, BinaryOp::LogicalOr, yes(), pi());
+    let mistyped = between(alloc, InfixOperator::LogicalOr, yes(), pi());
     refuses_type(&rt, alloc, mistyped)
 }

@@ -13,4 +13,4 @@ returns-in-Ok c =
 pub returns-in-Err : goal.returns-in-Err
 returns-in-Err c =
     let h : c.in-Err.refusal ≢ OutOfMemory → read_expression c.args.tokens.now (64 - c.args.depth) None c.args.at ≡ Err c.in-Err.refusal = first_of (search rules, grind (arith, common_steps)) in
-    (c.in-Err.refusal, kept c.args.tokens.now c.args.depth c.args.at (Err c.in-Err.refusal) h, c.told.ensures)
+    (c.in-Err.refusal, kept c.args.tokens.now c.args.depth c.args.at (Err c.in-Err.refusal) h, c.located.ensures)

@@ -2,7 +2,7 @@ use Rattle.std.proofs.Common.{rules, ◌≤◌, ◌<◌, inl, inr, ℕ, IsTrue, 
 use Rattle.qt_lex.specs.declared.tokens.Kind.TheVariants.{Integer, Wide}
 use Rattle.qt_lex.specs.Bytes.{byte}
 use Rattle.qt_lex.proofs.Tables.{compare2}
-use Rattle.qt_lex.proofs.Longest.{decimal_is, whole_is, cut_is, no_number}
+use Rattle.qt_lex.proofs.LongestToken.{decimal_is, whole_is, cut_is, no_number}
 use Rattle.qt_lex.proofs.number.number_at.Goals as goal
 
 pub returns-in-Some-clause-some : goal.returns-in-Some-clause-some

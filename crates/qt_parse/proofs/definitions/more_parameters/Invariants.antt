@@ -1,5 +1,5 @@
 use Rattle.std.proofs.Common.{◌≡◌, ◌+◌, ◌-◌, ◌*◌, None, length}
-use Rattle.qt_words.specs.declared.word.Word.TheVariants as w
+use Rattle.qt_terminals.specs.declared.terminal.Terminal.TheVariants as w
 use Rattle.qt_grammar.specs.Sorts.{parameter}
 use Rattle.qt_grammar.specs.Language as g
 use Rattle.qt_expr.specs.Parser.{rest_separated}

@@ -1,5 +1,5 @@
 use Rattle.std.proofs.Common.{◌≡◌, sym, subst}
-use Rattle.qt_words.specs.Terminals.{stream, terminals}
+use Rattle.qt_terminals.specs.Terminals.{stream, terminals}
 use Rattle.qt_grammar.specs.Reading.{language_limits}
 use Rattle.qt_grammar.specs.Promise.{OnlyProgram}
 use Rattle.qt_parse.proofs.Promises.{found}

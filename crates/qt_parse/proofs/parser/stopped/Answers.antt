@@ -8,4 +8,4 @@ use Rattle.qt_parse.proofs.parser.stopped.Goals as goal
 pub returns-in-Ok-true : goal.returns-in-Ok-true
 returns-in-Ok-true c =
     subst (λ at. Refused c.args.tokens.now (NotInProfile at Annotation)) (sym c.place-place.ensures)
-    (annotation c.args.tokens.now c.args.at c.requires (sym c.word.ensures.value ∙ c.in-At.is) (c.in-Ok-true.ensures.yes c.in-Ok-true.field-0-test))
+    (annotation c.args.tokens.now c.args.at c.requires (sym c.terminal.ensures.value ∙ c.in-At.is) (c.in-Ok-true.ensures.yes c.in-Ok-true.field-0-test))

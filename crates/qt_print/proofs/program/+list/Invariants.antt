@@ -1,6 +1,6 @@
 use Rattle.std.proofs.Common.{◌≡◌, true, map, drop}
-use Rattle.qt_print.specs.Words.{comma}
-use Rattle.qt_print.specs.Programs.{item_words}
+use Rattle.qt_print.specs.Lexemes.{comma}
+use Rattle.qt_print.specs.Programs.{item_lexemes}
 use Rattle.qt_print.specs.Page.{sheet_of, puts}
 use Rattle.qt_print.proofs.Puts.{still_separated}
 use Rattle.qt_print.proofs.program.+list.Given as goal
@@ -8,5 +8,5 @@ use Rattle.qt_print.proofs.program.+list.Given as goal
 -- what is put and the parts still to come are the whole
 abbrev pub invariant-put_list_items-loop-item : goal.invariant-put_list_items-loop-item
 invariant-put_list_items-loop-item l =
-    puts (sheet_of l.page) (still_separated l.first comma (map item_words (drop l.item-index l.items)))
-    ≡ puts (sheet_of l.fn.page) (still_separated true comma (map item_words l.items))
+    puts (sheet_of l.page) (still_separated l.first comma (map item_lexemes (drop l.item-index l.items)))
+    ≡ puts (sheet_of l.fn.page) (still_separated true comma (map item_lexemes l.items))

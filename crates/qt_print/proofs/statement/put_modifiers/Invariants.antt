@@ -1,5 +1,5 @@
 use Rattle.std.proofs.Common.{◌≡◌, map, drop}
-use Rattle.qt_print.specs.Words.{joined}
+use Rattle.qt_print.specs.Lexemes.{joined}
 use Rattle.qt_print.specs.Statements.{modifying}
 use Rattle.qt_print.specs.Page.{sheet_of, puts}
 use Rattle.qt_print.proofs.statement.put_modifiers.Given as goal

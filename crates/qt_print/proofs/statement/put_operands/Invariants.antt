@@ -1,6 +1,6 @@
 use Rattle.std.proofs.Common.{◌≡◌, true, map, drop}
-use Rattle.qt_print.specs.Words.{comma}
-use Rattle.qt_print.specs.Statements.{operand_words}
+use Rattle.qt_print.specs.Lexemes.{comma}
+use Rattle.qt_print.specs.Statements.{operand_lexemes}
 use Rattle.qt_print.specs.Page.{sheet_of, puts}
 use Rattle.qt_print.proofs.Puts.{still_separated}
 use Rattle.qt_print.proofs.statement.put_operands.Given as goal
@@ -8,5 +8,5 @@ use Rattle.qt_print.proofs.statement.put_operands.Given as goal
 -- what is put and the parts still to come are the whole
 abbrev pub invariant-loop-operand : goal.invariant-loop-operand
 invariant-loop-operand l =
-    puts (sheet_of l.page) (still_separated l.first comma (map operand_words (drop l.operand-index l.operands)))
-    ≡ puts (sheet_of l.fn.page) (still_separated true comma (map operand_words l.operands))
+    puts (sheet_of l.page) (still_separated l.first comma (map operand_lexemes (drop l.operand-index l.operands)))
+    ≡ puts (sheet_of l.fn.page) (still_separated true comma (map operand_lexemes l.operands))

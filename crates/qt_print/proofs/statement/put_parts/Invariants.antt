@@ -1,6 +1,6 @@
 use Rattle.std.proofs.Common.{◌≡◌, true, map, drop}
 use Rattle.qt_print.specs.Statements.{plus_plus}
-use Rattle.qt_print.specs.Statements.{operand_words}
+use Rattle.qt_print.specs.Statements.{operand_lexemes}
 use Rattle.qt_print.specs.Page.{sheet_of, puts}
 use Rattle.qt_print.proofs.Puts.{still_separated}
 use Rattle.qt_print.proofs.statement.put_parts.Given as goal
@@ -8,5 +8,5 @@ use Rattle.qt_print.proofs.statement.put_parts.Given as goal
 -- what is put and the parts still to come are the whole
 abbrev pub invariant-loop-part : goal.invariant-loop-part
 invariant-loop-part l =
-    puts (sheet_of l.page) (still_separated l.first plus_plus (map operand_words (drop l.part-index l.parts)))
-    ≡ puts (sheet_of l.fn.page) (still_separated true plus_plus (map operand_words l.parts))
+    puts (sheet_of l.page) (still_separated l.first plus_plus (map operand_lexemes (drop l.part-index l.parts)))
+    ≡ puts (sheet_of l.fn.page) (still_separated true plus_plus (map operand_lexemes l.parts))

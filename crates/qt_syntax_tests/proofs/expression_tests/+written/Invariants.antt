@@ -6,8 +6,8 @@ decreases-write_tree l = l.depth
 abbrev pub decreases-write_between : goal.decreases-write_between
 decreases-write_between l = l.depth
 
-abbrev pub decreases-write_word : goal.decreases-write_word
-decreases-write_word l = l.depth
+abbrev pub decreases-write_terminal : goal.decreases-write_terminal
+decreases-write_terminal l = l.depth
 
 abbrev pub decreases-write_scalar : goal.decreases-write_scalar
 decreases-write_scalar l = l.depth

@@ -1,5 +1,5 @@
 use Rattle.std.proofs.Common.{◌≡◌, ◌-◌, length}
-use Rattle.qt_words.specs.declared.word.Word.TheVariants as w
+use Rattle.qt_terminals.specs.declared.terminal.Terminal.TheVariants as w
 use Rattle.qt_grammar.specs.Language.{expression}
 use Rattle.qt_expr.specs.Parser.{rest_separated}
 use Rattle.qt_expr.proofs.reader.Reader.more_expressions.Given as goal

@@ -1,0 +1,15 @@
+use Rattle.std.proofs.Common.{rules, arith}
+use Rattle.qt_terminals.proofs.Lists.{spelling_found, nothing_found}
+use Rattle.qt_terminals.specs.Terminals.{spelling_of}
+use Rattle.qt_terminals.proofs.stream.TokenStream.spelling.Goals as goal
+
+pub returns-in-Some : goal.returns-in-Some
+unfolding spelling_of
+returns-in-Some c =
+    let e = spelling_found c.self.inside.text.now c.self.inside.tokens.now c.self.inside.words.items c.self.inside.operators.items c.args.at c.in-Some.token.now (omega (arith, c.in-Some.ensures.lookup.3.0)) c.self.invariant.0 c.self.invariant.1 in
+    rw (← c.self.view_is, e) (search rules)
+
+pub returns-in-None : goal.returns-in-None
+returns-in-None c =
+    let e = nothing_found c.self.inside.text.now c.self.inside.tokens.now c.self.inside.words.items c.self.inside.operators.items c.args.at (omega (arith, c.in-None.ensures.lookup.3)) c.self.invariant.0 c.self.invariant.1 in
+    rw (← c.self.view_is, e) (search rules)

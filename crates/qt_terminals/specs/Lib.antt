@@ -1,0 +1,4 @@
+pub mod Literals
+pub mod Alphabet
+pub mod Terminals
+pub mod Found

@@ -1,4 +1,0 @@
-pub mod Literals
-pub mod Words
-pub mod Terminals
-pub mod Found
