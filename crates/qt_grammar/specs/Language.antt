@@ -522,7 +522,7 @@ version_form = then_ {s = place} {t = version_number} {u = version} (λ at x. re
 -- the versions of a text: one, or none
 abbrev pub versions_of : Option Version → List Version
 versions_of None = []
-versions_of (Some version) = version ∷ []
+versions_of (Some x) = x ∷ []
 
 -- program = [ version ] { global }, and then the end of the text
 abbrev pub whole : Form program

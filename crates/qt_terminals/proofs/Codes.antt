@@ -1,4 +1,4 @@
--- Each terminal has a number of its own: the list of all words gives it back.
+-- Each terminal has a number of its own: the list of all terminals gives it back.
 use Rattle.std.proofs.Common.{◌≡◌, List, [], ◌∷◌, get_or, refl, sym, ap, ◌∙◌}
 use Rattle.qt_terminals.specs.declared.terminal.Terminal.{Terminal}
 use Rattle.qt_terminals.specs.declared.terminal.Terminal.TheVariants as w

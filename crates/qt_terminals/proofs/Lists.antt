@@ -18,7 +18,7 @@ length-all_found text (t ∷ ts) [] ns e f = absurd (omega (arith, e))
 length-all_found text (t ∷ ts) (w ∷ ws) [] e f = absurd (omega (arith, f))
 length-all_found text (t ∷ ts) (w ∷ ws) (n ∷ ns) e f = let h : length (all_found text ts ws ns) ≡ length ts = length-all_found text ts ws ns (omega (arith, e)) (omega (arith, f)) in omega (arith, h)
 
--- the terminal of a token, by the words that are kept
+-- the terminal of a token, by the terminals that are kept
 pub terminal_found : (text : List ℕ) (ts : List Token) (ws : List Terminal) (ns : List ℕ) (at : ℕ) → length ws ≡ length ts → length ns ≡ length ts
     → (stream (all_found text ts ws ns) at).terminal ≡ get_or ws at w.End
 terminal_found text [] [] [] at e f = refl

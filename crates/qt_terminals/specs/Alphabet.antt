@@ -75,7 +75,7 @@ terminal_of kind.Constant s = terminal_in constants w.Name s
 terminal_of kind.Euler s = w.Euler
 terminal_of kind.End s = w.End
 
--- inside an expression each of these words is an operator
+-- inside an expression each of these terminals is an operator
 abbrev pub is_operator : Terminal → Bool
 is_operator w.OrOr = true
 is_operator w.AndAnd = true

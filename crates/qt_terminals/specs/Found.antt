@@ -1,4 +1,4 @@
--- What a token stream keeps: the words of its tokens and their counts of operators. These words serve the contracts inside
+-- What a token stream keeps: the terminals of its tokens and their counts of operators. These terminals serve the contracts inside
 -- this crate.
 use Rattle.std.specs.Prelude.{ℕ, List, [], ◌∷◌}
 use Rattle.qt_lex.specs.declared.tokens.Token.{Token}

@@ -1,4 +1,4 @@
--- The words of a text's tokens, as the grammar sees them: each with its spelling, its place, and how many operators stand
+-- The terminals of a text's tokens, as the grammar sees them: each with its spelling, its place, and how many operators stand
 -- before it. OpenQASM 3.0 live specification, the lexical grammar in its appendix.
 use Rattle.std.specs.Prelude.{◌≡◌, ℕ, zero, suc, ◌+◌, if◌then◌else◌, List, [], ◌∷◌, slice_index_or}
 use Rattle.qt_tree.specs.declared.place.Place.{Place}

@@ -22,8 +22,8 @@ pub fn integers_fit(text: &str, file: u16)
     ensures { (tokens : List Token) → GivesTokens text.now file tokens → All (λ t. t.kind ≡ kind.Integer → integer_of (spelling_of text.now t) < 2 ^ 64) tokens }
 {}
 
-/// Each reserved word, symbol and constant of the lexer has its row in the table of words.
-#[tactic(auto, unfolding(crate::specs::Words::reserved_words, crate::specs::Words::symbols, crate::specs::Words::constants))]
+/// Each reserved word, symbol and constant of the lexer has its row in the table of terminals.
+#[tactic(auto, unfolding(crate::specs::Alphabet::reserved_words, crate::specs::Alphabet::symbols, crate::specs::Alphabet::constants))]
 pub fn each_spelling_has_a_terminal()
     ensures reserved { map (λ row. row.0) alphabet.reserved_words ≡ bytes.reserved_words }
     ensures symbols { map (λ row. row.0) alphabet.symbols ≡ bytes.symbols }

@@ -137,7 +137,7 @@ fn terminal_in(mut table: &[(&[u8], Terminal)], other: Terminal, spelling: &[u8]
 }
 
 /// The terminal of a token of that kind and that spelling.
-#[tactic(auto, unfolding(crate::specs::Words::terminal_of, crate::specs::Words::reserved_words, crate::specs::Words::symbols, crate::specs::Words::constants, crate::specs::Words::hashes))]
+#[tactic(auto, unfolding(crate::specs::Alphabet::terminal_of, crate::specs::Alphabet::reserved_words, crate::specs::Alphabet::symbols, crate::specs::Alphabet::constants, crate::specs::Alphabet::hashes))]
 pub fn terminal_of(kind: Kind, spelling: &[u8]) -> Terminal
     ensures { result ≡ spec.terminal_of kind spelling.now }
 {

@@ -16,13 +16,13 @@ use qt_tree::place::Place;
 use std::alloc::{AllocError, Global};
 use std::marker::Model;
 
-/// A text with its tokens. Contracts see it as the list of the words of its tokens, each with its spelling, its place, and the
+/// A text with its tokens. Contracts see it as the list of the terminals of its tokens, each with its spelling, its place, and the
 /// number of operators before it. Every call answers for every number of a token: behind the last stands the end of the text.
 #[derive(Drop)]
 pub struct TokenStream<'a> {
     text: &'a str,
     tokens: &'a [Token],
-    words: Vec<Terminal>,
+    terminals: Vec<Terminal>,
     operators: Vec<usize>,
 }
 
@@ -34,35 +34,35 @@ impl<'a> Model for TokenStream<'a> {
 
     ghost use Rattle.qt_terminals.specs.Found.{all_found};
 
-    ghost view = { λ a. all_found a.text.now a.tokens.now a.words.items a.operators.items };
+    ghost view = { λ a. all_found a.text.now a.tokens.now a.terminals.items a.operators.items };
 
-    ghost invariant = { λ a. (length a.words.items ≡ length a.tokens.now) × (length a.operators.items ≡ length a.tokens.now) };
+    ghost invariant = { λ a. (length a.terminals.items ≡ length a.tokens.now) × (length a.operators.items ≡ length a.tokens.now) };
 }
 
-/// The words of the tokens of a text.
+/// The terminals of the tokens of a text.
 #[tactic(auto, unfolding(crate::specs::Terminals::terminal_at, crate::specs::Terminals::spelling_of))]
 fn terminals_of_tokens(
     alloc: Global,
     text: &str,
     tokens: &[Token],
 ) -> Result<Vec<Terminal>, AllocError>
-    ensures { IfOk result (λ words. alphabet.items ≡ map (spec.terminal_at text.now) tokens.now) }
+    ensures { IfOk result (λ terminals. terminals.items ≡ map (spec.terminal_at text.now) tokens.now) }
 {
-    let mut words = Vec::new(alloc);
+    let mut terminals = Vec::new(alloc);
     for token in tokens {
         let spelling = literal::cut(text, token.start, token.end);
-        alphabet.push(terminal_of(token.kind, spelling.as_bytes()))?;
+        terminals.push(terminal_of(token.kind, spelling.as_bytes()))?;
     }
-    Ok(words)
+    Ok(terminals)
 }
 
 /// How many operators stand before each terminal.
-fn counts_of(alloc: Global, words: &[Terminal]) -> Result<Vec<usize>, AllocError>
-    ensures { IfOk result (λ counts. counts.items ≡ counts_behind 0 alphabet.now) }
+fn counts_of(alloc: Global, terminals: &[Terminal]) -> Result<Vec<usize>, AllocError>
+    ensures { IfOk result (λ counts. counts.items ≡ counts_behind 0 terminals.now) }
 {
     let mut counts = Vec::new(alloc);
     let mut count: usize = 0;
-    for terminal in words {
+    for terminal in terminals {
         counts.push(count)?;
         if terminal.is_operator() {
             count += 1;
@@ -80,12 +80,12 @@ impl<'a> TokenStream<'a> {
     ) -> Result<TokenStream<'a>, OutOfMemory>
         ensures { IfOk result (λ made. made ≡ terminals text.now tokens.now) }
     {
-        let words = terminals_of_tokens(alloc, text, tokens)?;
-        let operators = counts_of(alloc, &words)?;
+        let terminals = terminals_of_tokens(alloc, text, tokens)?;
+        let operators = counts_of(alloc, &terminals)?;
         Ok(TokenStream {
             text,
             tokens,
-            words,
+            terminals,
             operators,
         })
     }
@@ -103,7 +103,7 @@ impl<'a> TokenStream<'a> {
         ensures within { 0 < code result → at < length self.now }
         ensures room { 0 < code result → at + 1 < 2 ^ 64 }
     {
-        match self.words.get(at) {
+        match self.terminals.get(at) {
             Some(terminal) => *terminal,
             None => Terminal::End,
         }
@@ -177,8 +177,8 @@ impl<'a> TokenStream<'a> {
     pub fn replaced(&mut self, at: usize, terminal: Terminal)
         ensures { self.new ≡ with_terminal self.old at terminal }
     {
-        if at < self.words.len() {
-            self.words[at] = terminal;
+        if at < self.terminals.len() {
+            self.terminals[at] = terminal;
         }
     }
 }

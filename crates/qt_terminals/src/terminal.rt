@@ -185,7 +185,7 @@ pub enum Terminal {
 }
 
 impl Terminal {
-    /// The number of the terminal. `End` has 0, and no two words have one number.
+    /// The number of the terminal. `End` has 0, and no two terminals have one number.
     pub fn code(self) -> u8
         ensures { result ≡ spec.code self }
     {
@@ -263,7 +263,7 @@ impl Terminal {
     }
 }
 
-/// No two words have one number.
+/// No two terminals have one number.
 #[tactic(auto, using(crate::proofs::Codes::code_same))]
 pub fn codes_differ()
     ensures { (a b : Terminal) → spec.code a ≡ spec.code b → a ≡ b }
