@@ -4,7 +4,7 @@
 top=$(cd "$(dirname "${BASH_SOURCE[0]}")/.." && pwd) || exit 1
 program=$top/crates/qt_cli/out/qt_cli
 if [ ! -x "$program" ]; then
-  echo "front.sh: 'cd crates/qt_cli && rt run' makes the proved program first" >&2
+  echo "front.sh: './build' makes the proved program first" >&2
   exit 1
 fi
 folder=$(mktemp -d) || exit 1
