@@ -12,8 +12,6 @@
 
 pub mod laws;
 pub mod omega;
-#[cfg(test)]
-mod tests;
 pub mod wide;
 
 /// The most qubits that a state may have.
