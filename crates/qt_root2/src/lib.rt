@@ -12,6 +12,4 @@ pub mod mass;
 mod numerator;
 pub mod scale;
 mod scaling;
-#[cfg(test)]
-mod tests;
 pub mod weight;
