@@ -11,5 +11,3 @@
 pub mod laws;
 pub mod program;
 pub mod read;
-#[cfg(test)]
-mod tests;
