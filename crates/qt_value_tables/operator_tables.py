@@ -184,6 +184,15 @@ def cast(kind, a, to):
     raise Refused
 
 
+def yes(holds):
+    return "true" if holds else "false"
+
+
+def type_facts(kind):
+    """Its width, whether it has a size of the language, and whether its values are whole numbers."""
+    return f"{kind[1]} {yes(has_size(kind))} {yes(is_whole(kind))}"
+
+
 def place(index, length):
     try:
         return range(length)[index]
@@ -252,6 +261,10 @@ def number_row(kind, bits):
     return f"number {text(kind, bits)}", number(kind, bits) if fits else "refused"
 
 
+def type_row(kind):
+    return f"type {text(kind)}", type_facts(kind)
+
+
 def place_row(index, length):
     return f"place {index} {length}", place(index, length)
 
@@ -263,6 +276,58 @@ def turns_row(first, step, last):
 def one_if_refused(rows):
     """A refusal rests on types alone."""
     return rows[:1] if rows[0][1] == "refused" else rows
+
+
+# Rows whose answers are worked out by hand, line by line.
+WORKED = """
+/ int 8 249 int 8 2 = int 8 253
+% int 8 249 int 8 2 = int 8 255
++ int 8 127 int 8 1 = int 8 128
+/ int 64 5 int 64 0 = divide
+/ angle 8 5 int 8 255 = divide
+** int 8 2 int 8 255 = divide
++ angle 8 5 int 8 1 = refused
+<< uint 8 1 uint 8 8 = uint 8 0
+<< uint 8 1 int 8 255 = uint 8 0
+>> int 8 128 int 8 255 = int 8 0
+>> int 8 128 int 8 8 = int 8 0
+rotl bit 8 129 int 8 255 = bit 8 192
+rotr bit 8 129 int 8 247 = bit 8 3
+~ uint 8 5 = uint 8 250
+popcount bit 4 5 = uint 64 2
+neg bit 8 1 = uint 8 255
+neg int 8 128 = int 8 128
+! int 8 0 = bool 1 1
+! angle 8 0 = refused
+cast int 8 255 uint 64 = uint 64 18446744073709551615
+cast uint 8 200 bool 1 = bool 1 1
+cast angle 8 129 angle 7 = angle 7 64
+cast bit 8 1 angle 7 = refused
+cast uint 8 1 phase 0 = refused
+number uint 3 7 = 7
+number uint 3 8 = refused
+number int 8 127 = 127
+number int 8 128 = -128
+number angle 33 0 = refused
+number phase 0 0 = refused
+type bool 1 = 1 true true
+type bit 64 = 64 true true
+type int 65 = 65 false true
+type angle 32 = 32 true false
+type phase 0 = 0 false false
+place -3 2 = index
+place -2 2 = 0
+place 1 2 = 1
+place 2 2 = index
+turns 0 3 10 = 4
+turns 5 1 2 = 0
+turns 0 0 3 = step
+turns 0 1 18446744073709551616 = 18446744073709551615
+"""
+
+
+def worked():
+    return [tuple(line.rsplit(" = ", 1)) for line in WORKED.strip().split("\n")]
 
 
 def examples():
@@ -325,6 +390,11 @@ def number_rows():
         yield number_row(kind, 0)
 
 
+def type_rows():
+    for kind in [*TYPES, *NO_TYPES]:
+        yield type_row(kind)
+
+
 def place_rows():
     yield place_row(0, 0)
     for length in (1, 2, 7, (1 << 32) - 1):
@@ -343,11 +413,20 @@ def turns_rows():
 
 
 def rows():
-    for part in (examples, number_rows, unary_rows, cast_rows, place_rows, turns_rows, binary_rows):
+    for part in (worked, examples, type_rows, number_rows, unary_rows, cast_rows, place_rows, turns_rows, binary_rows):
         yield from part()
+
+
+def answers():
+    """Each row once. A row that is worked out by hand and reckoned too has the same answer both times."""
+    answers = {}
+    for line, answer in rows():
+        if answers.setdefault(line, str(answer)) != str(answer):
+            raise SystemExit(f"{line}: {answers[line]}, and {answer}")
+    return answers
 
 
 if __name__ == "__main__":
     column = ("stdin", "stdout").index(sys.argv[1])
-    for line in dict(rows()).items():
+    for line in answers().items():
         print(line[column])

@@ -16,6 +16,7 @@ use std::fmt;
 pub enum Answer {
     Value(Value),
     Number(i128),
+    Type(ValueType),
     /// The table has no row for the types, or the bits are no value of their type.
     Refused,
     Fault(ValueFault),
@@ -29,6 +30,7 @@ impl Answer {
             Row::Unary(op, of) => unary(op, of),
             Row::Number(of) => Some(number(of)),
             Row::Cast(of, to) => Some(converted(of.value()?, to)),
+            Row::Type(kind) => Some(Answer::Type(kind)),
             Row::Place(index, length) => Some(place(index, length)),
             Row::Turns(first, step, last) => turns(first, step, last),
         }
@@ -97,6 +99,10 @@ impl fmt::Display for Answer {
             Answer::Value(value) => {
                 let (kind, bits) = (value.kind(), value.bits());
                 write!(f, "{} {} {bits}", type_name(kind), kind.width())
+            }
+            Answer::Type(kind) => {
+                let (width, sized, whole) = (kind.width(), kind.has_size(), kind.is_whole());
+                write!(f, "{width} {sized} {whole}")
             }
             Answer::Number(number) => write!(f, "{number}"),
             Answer::Refused => f.write_str("refused"),

@@ -1,10 +1,11 @@
 //! The table of operators and conversions as a program over `qt_value`.
 //!
 //! It reads rows from the standard input, one a line, and prints the answer to each as one line. A row is a call:
-//! an operator and its operands, `number`, `cast`, `place` or `turns`, as in `+ int 8 127 int 8 1`, `popcount bit 4 5`,
-//! `number int 8 255`, `cast int 8 255 uint 64`, `place -2 2` and `turns 0 3 10`. An operand is a type, its width and bits.
-//! An answer is a value of the same form, a number, `refused`, `divide`, `index` or `step`. A line that is no row ends
-//! the program with status 1.
+//! an operator and its operands, `number`, `cast`, `type`, `place` or `turns`, as in `+ int 8 127 int 8 1`,
+//! `popcount bit 4 5`, `number int 8 255`, `cast int 8 255 uint 64`, `type int 65`, `place -2 2` and `turns 0 3 10`. An operand
+//! is a type, its width and bits. An answer is a value of the same form, a number, `refused`, `divide`, `index` or `step`; that
+//! to `type` is the width, whether it is a size of the language, and whether the type's values are whole numbers. A line that
+//! is no row ends the program with status 1.
 //!
 //! `operator_tables.py` writes the rows and, from the tables of the language, the answers that are wanted.
 #![tactic(auto)]

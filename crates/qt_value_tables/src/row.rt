@@ -29,6 +29,7 @@ pub enum Row {
     Unary(UnaryOp, Operand),
     Number(Operand),
     Cast(Operand, ValueType),
+    Type(ValueType),
     /// The index and the length.
     Place(i128, u32),
     /// The start, the step and the end.
@@ -52,6 +53,7 @@ fn row_of(first: &str, words: &mut SplitWhitespace) -> Option<Row> {
     match first {
         "number" => Some(Row::Number(operand_in(words)?)),
         "cast" => Some(Row::Cast(operand_in(words)?, kind_in(words)?)),
+        "type" => Some(Row::Type(kind_in(words)?)),
         "place" => place(words),
         "turns" => turns(words),
         _ => operation(first, words),
