@@ -10,6 +10,7 @@
 //! program brings real files and standard output.
 #![tactic(auto)]
 
+pub mod asked;
 mod copying;
 mod failing_put;
 pub mod faults;
