@@ -10,3 +10,5 @@ pub mod LongestToken
 pub mod Single
 pub mod Exact
 pub mod Spans
+pub mod Decided
+pub mod Readings

@@ -8,7 +8,7 @@ use Rattle.qt_lex.specs.declared.lexer.Gap.{Gap}
 use Rattle.qt_lex.specs.declared.lexer.Gap.TheVariants as gap
 use Rattle.qt_lex.specs.Bytes.{byte, is_digit, IsOneOf, time_units, imaginary_units}
 use Rattle.qt_lex.specs.Numbers.{is_digit_of, prefixes, is_exponent_sign, IsExponent, IsDecimal}
-use Rattle.qt_lex.specs.Tokens.{IsSolid, IsGap, IsUnclosed}
+use Rattle.qt_lex.specs.Tokens.{LongestToken, NoToken, IsSolid, IsGap, IsUnclosed}
 
 -- the base that two bytes name as a prefix
 abbrev pub prefix_of : ℕ → ℕ → Option Radix
@@ -36,6 +36,14 @@ module _ (b : ℕ → ℕ) where
   IsWithUnit k m k' j = ((k' ≡ kind.Timing) × IsOneOf b time_units m j)
       ⊎ (((k' ≡ kind.Imaginary) × IsOneOf b imaginary_units m j)
       ⊎ ((k' ≡ k) × (j ≡ m)))
+
+-- a blank, a comment or the longest token begins at i and ends at j
+abbrev pub GoesOnAt : List ℕ → ℕ → ℕ → Type 0
+GoesOnAt text i j = IsGap (byte text) (length text) i j ⊎ (IsSolid (byte text) i × ((k : Kind) × LongestToken (byte text) k i j))
+
+-- a comment begins here that isn't closed, or no token begins
+abbrev pub IsToBlame : (ℕ → ℕ) → ℕ → Type 0
+IsToBlame b i = IsUnclosed b i ⊎ (IsSolid b i × NoToken b i)
 
 abbrev pub GapIs : List ℕ → ℕ → Gap → Type 0
 GapIs text i gap.Solid = IsSolid (byte text) i

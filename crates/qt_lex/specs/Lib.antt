@@ -2,4 +2,5 @@ pub mod Bytes
 pub mod Numbers
 pub mod Bits
 pub mod Tokens
+pub mod Theorems
 pub mod Answers

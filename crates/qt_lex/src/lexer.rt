@@ -1,6 +1,6 @@
 //! Tokens one by one, with what stands between them.
 
-ghost use Rattle.std.specs.Prelude.{◌≡◌, ◌+◌, ◌-◌, ◌||◌, eqb, ◌<◌, ◌≤◌, ◌^◌, ℕ, List, true, false, length, codes, Ok, Err, IfOk, IfSome, IfNone};
+ghost use Rattle.std.specs.Prelude.{◌≡◌, ◌+◌, ◌-◌, ◌||◌, eqb, ◌<◌, ◌≤◌, ◌^◌, ℕ, true, false, length, codes, Ok, Err, IfOk, IfSome, IfNone};
 ghost use Rattle.qt_lex.specs.Bytes as bytes;
 ghost use Rattle.qt_lex.specs.Bytes.{byte};
 ghost use Rattle.qt_lex.specs.Tokens as spec;
@@ -8,7 +8,6 @@ ghost use Rattle.qt_lex.specs.Tokens.{LongestToken, NoToken, GivesTokens, FailsA
 ghost use Rattle.qt_lex.specs.Answers.{GapIs};
 ghost use Rattle.qt_tree.specs.declared.place.Place.{Place};
 ghost use Rattle.qt_lex.specs.declared.tokens.Kind.{Kind};
-ghost use Rattle.qt_lex.specs.declared.tokens.Token.{Token};
 ghost use Rattle.qt_lex.specs.declared.tokens.LexRefusal.TheVariants as refusal;
 
 use crate::bits::is_long_bit_string;
@@ -142,7 +141,7 @@ fn sign_at(text: &[u8], at: usize) -> Option<(Kind, usize)>
 }
 
 /// The longest token at a place, by its kind and its end.
-fn token_at(text: &[u8], at: usize) -> Option<(Kind, usize)>
+pub(crate) fn token_at(text: &[u8], at: usize) -> Option<(Kind, usize)>
     requires { at < length text.now }
     ensures some { IfSome result (λ found. LongestToken (byte text.now) found.0 at found.1) }
     ensures ahead { IfSome result (λ found. at < found.1) }
@@ -199,14 +198,14 @@ fn closing(text: &[u8], at: usize) -> Option<usize>
 
 /// What may stand at a place between tokens: nothing, a blank or a comment up to its end, or a comment that isn't closed.
 #[derive(Clone, Copy, Debug)]
-enum Gap {
+pub(crate) enum Gap {
     Solid,
     Ends(usize),
     Open,
 }
 
 /// The blank or comment that begins at a place.
-fn gap_at(text: &[u8], at: usize) -> Gap
+pub(crate) fn gap_at(text: &[u8], at: usize) -> Gap
     requires { at < length text.now }
     ensures { GapIs text.now at result }
 {
@@ -228,7 +227,7 @@ fn gap_at(text: &[u8], at: usize) -> Gap
 }
 
 /// The place of the character at `to`, where `place` is that of the character at `from`.
-fn place_after(text: &[u8], place: Place, from: usize, to: usize) -> Place
+pub(crate) fn place_after(text: &[u8], place: Place, from: usize, to: usize) -> Place
     requires place { place ≡ spec.place_of (byte text.now) place.file from }
     requires ahead { from ≤ to }
     requires within { to ≤ length text.now }
@@ -311,10 +310,3 @@ pub fn lex(alloc: Global, text: &str, file: u16) -> Result<Vec<Token>, LexRefusa
 {
     tokens_of(alloc, text.as_bytes(), file)
 }
-
-/// A text gives one list of tokens, or has one place to blame, and not both.
-pub fn one_reading(text: &str, file: u16)
-    ensures tokens { (p q : List Token) → GivesTokens text.now file p → GivesTokens text.now file q → p ≡ q }
-    ensures refusals { (p q : Place) → FailsAt text.now file p → FailsAt text.now file q → p ≡ q }
-    ensures either { (p : List Token) (q : Place) → GivesTokens text.now file p → FailsAt text.now file q → ⊥ }
-{}
