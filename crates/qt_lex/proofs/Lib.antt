@@ -12,3 +12,5 @@ pub mod Exact
 pub mod Spans
 pub mod Decided
 pub mod Readings
+mod Steps
+mod Faults
