@@ -1,5 +1,5 @@
 -- A text gives tokens, or has a character to blame.
-use Rattle.std.proofs.Common.{◌≡◌, ℕ, zero, suc, ◌+◌, ◌-◌, ◌≤◌, ◌<◌, ◌⊎◌, inl, inr, Bool, true, false, not, ◌&&◌, eqb, List, [], ◌∷◌, length, refl, sym, ap, ◌∙◌, subst, arith}
+use Rattle.std.proofs.Common.{◌≡◌, ℕ, zero, suc, ◌+◌, ◌-◌, ◌≤◌, ◌<◌, ◌⊎◌, inl, inr, Bool, true, false, ◌&&◌, eqb, List, [], ◌∷◌, length, refl, sym, ap, ◌∙◌, subst, arith}
 use Rattle.qt_tree.specs.declared.place.Place.{Place}
 use Rattle.qt_lex.specs.declared.tokens.Kind.{Kind}
 use Rattle.qt_lex.specs.declared.tokens.Kind.TheVariants.{End}

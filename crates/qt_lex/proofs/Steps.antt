@@ -1,5 +1,5 @@
 -- What stands from one step of reading on stands from the place before it on.
-use Rattle.std.proofs.Common.{◌≡◌, ℕ, ◌<◌, inl, inr, List, ◌∷◌, length}
+use Rattle.std.proofs.Common.{ℕ, ◌<◌, inl, inr, List, ◌∷◌, length}
 use Rattle.qt_lex.specs.declared.tokens.Token.{Token}
 use Rattle.qt_lex.specs.Bytes.{byte}
 use Rattle.qt_lex.specs.Tokens.{Lexes, gap, token, Fails, open_comment, no_token, behind_gap, behind_token, token_of}

@@ -1,3 +1,5 @@
 pub mod Stops
 pub mod Outcomes
 mod Steps
+mod Fronts
+mod Answered

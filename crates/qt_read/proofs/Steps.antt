@@ -25,7 +25,7 @@ pub program_of : (file : ℕ) (text bytes : List ℕ) (ts : List Token) → text
 unfolding SpellsOnly
 program_of file text bytes ts same has program h = record { tokens = ts; has = has; spelled = subst (λ t. OnlyProgram (stream (terminals t ts)) language_limits program) same h }
 
-stop : (name : List ℕ) (file : ℕ) (text : List ℕ) (ts : List Token) → HasTokens file text ts → (e : ParseRefusal) → e ≢ p.OutOfMemory → Refused (terminals text ts) e → IsRefused name file text (refusal_of e)
+pub stop : (name : List ℕ) (file : ℕ) (text : List ℕ) (ts : List Token) → HasTokens file text ts → (e : ParseRefusal) → e ≢ p.OutOfMemory → Refused (terminals text ts) e → IsRefused name file text (refusal_of e)
 unfolding IsStopped
 stop name file text ts has e m h = stopped ts (refusal_of e) has (e, m, h, refl)
 

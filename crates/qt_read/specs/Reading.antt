@@ -1,6 +1,6 @@
 -- When a text is that of a program, and why it is that of none: it is too long, or isn't UTF-8, or has no tokens, or its tokens
 -- spell no program. OpenQASM 3.0 live specification, "Comments" (a source file is UTF-8 text) and the grammar in its appendix.
-use Rattle.std.specs.Prelude.{◌≡◌, ◌≢◌, ℕ, ◌<◌, ◌≤◌, List, length}
+use Rattle.std.specs.Prelude.{◌≡◌, ◌≢◌, ℕ, ◌<◌, ◌≤◌, ◌⊎◌, List, length}
 use Rattle.std.specs.Str.{IsUtf8, IsValidUpTo}
 use Rattle.qt_tree.specs.declared.place.Place.{Place}
 use Rattle.qt_tree.specs.declared.program.Program.{Program}
@@ -59,8 +59,9 @@ abbrev pub IsReason : List ℕ → ℕ → List ℕ → TextRefusal → Type 0
 IsReason name file text r.OutOfMemory = Unit {0}
 IsReason name file text refusal = IsRefused name file text refusal
 
--- a text is that of one program, or is refused for one reason, and never both
+-- a text is that of exactly one program, or is refused for exactly one reason, and never both
 pub record HasOneOutcome (name : List ℕ) (file : ℕ) (text : List ℕ) : Type 0 where
+  pub some : ((program : Program) × IsTextOfProgram file text program) ⊎ ((refusal : TextRefusal) × IsRefused name file text refusal)
   pub programs : (p q : Program) → IsTextOfProgram file text p → IsTextOfProgram file text q → p ≡ q
   pub refusals : (p q : TextRefusal) → IsRefused name file text p → IsRefused name file text q → p ≡ q
   pub either : (p : Program) (q : TextRefusal) → IsTextOfProgram file text p → IsRefused name file text q → ⊥

@@ -2,8 +2,8 @@
 //!
 //! [`read::read`] decides in this order: a text may be too long, not UTF-8, without tokens, or its tokens may spell no program; else
 //! it is that of one program. `specs/Reading.antt` says when a text is that of a program and when it is refused for a reason, and
-//! [`laws::one_outcome`] that it is one of the two, and for one program or one reason alone. [`line::refusal_line`] writes the line
-//! that tells a refusal, for every refusal of texts, programs and settings (`specs/Lines.antt`).
+//! [`laws::one_outcome`] that it is exactly one of the two, and for exactly one program or one reason. [`line::refusal_line`] writes
+//! the line that tells a refusal, for every refusal of texts, programs and settings (`specs/Lines.antt`).
 //! The top call reads the main text by it.
 #![tactic(auto)]
 

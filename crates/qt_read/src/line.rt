@@ -90,11 +90,11 @@ fn push_refusal(line: &mut String, names: &[Label], refusal: &TextRefusal) -> Re
         TextRefusal::E10(place) => push_placed(line, names, "E10 ", *place, " type"),
         TextRefusal::E11(place, cause) => {
             push_placed(line, names, "E11 ", *place, " form ")?;
-            line.push_str(cause.terminal())
+            line.push_str(cause.word())
         }
         TextRefusal::E12(place, cause) => {
             push_placed(line, names, "E12 ", *place, " const ")?;
-            line.push_str(cause.terminal())
+            line.push_str(cause.word())
         }
         TextRefusal::E13(place, units) => {
             push_placed(line, names, "E13 ", *place, " angle ")?;
@@ -112,7 +112,7 @@ fn push_refusal(line: &mut String, names: &[Label], refusal: &TextRefusal) -> Re
             line.push_str("E19 ")?;
             line.push_str(name.text())?;
             line.push(' ')?;
-            line.push_str(cause.terminal())
+            line.push_str(cause.word())
         }
         TextRefusal::OutOfMemory => line.push_str("M1 memory"),
     }

@@ -1,4 +1,4 @@
-use Rattle.std.proofs.Common.{◌≡◌, ℕ, [], ◌∷◌, ap, ◌∙◌}
+use Rattle.std.proofs.Common.{ℕ, [], ◌∷◌, ap, ◌∙◌}
 use Rattle.qt_tree.specs.declared.place.Place.{Place}
 use Rattle.qt_lex.specs.declared.tokens.Kind.TheVariants.{End}
 use Rattle.qt_lex.specs.Bytes.{byte}
