@@ -1,9 +1,9 @@
 -- Tokens spell a program, or one of them is refused for a reason.
-use Rattle.std.proofs.Common.{◌≡◌, ◌≢◌, ℕ, ◌⊎◌, inl, inr, Bool, true, false, eqb, List, length, Option, Some, None, Ok, Err, refl, sym, ap, subst, ◌∙◌}
+use Rattle.std.proofs.Common.{◌≡◌, ◌≢◌, ℕ, ◌<◌, ◌⊎◌, inl, inr, Bool, true, false, eqb, List, length, Option, Some, None, Result, Ok, Err, refl, sym, ap, subst, ◌∙◌, arith}
 use Rattle.qt_tree.specs.declared.program.Program.{Program}
 use Rattle.qt_tree.specs.declared.refusal.Feature.{Feature}
 use Rattle.qt_tree.specs.declared.refusal.Feature.TheVariants.{Annotation}
-use Rattle.qt_lex.proofs.Tables.{eqb_same}
+use Rattle.qt_lex.proofs.Tables.{eqb_same, compare}
 use Rattle.qt_terminals.specs.declared.terminal.Terminal.{Terminal}
 use Rattle.qt_terminals.specs.declared.terminal.Terminal.TheVariants as w
 use Rattle.qt_terminals.specs.Alphabet.{feature_of, code}
@@ -55,17 +55,18 @@ module _ (all : List PlacedTerminal) where
     could_or_not (Ok (tree, j)) e = inl (barrier_begins all n stopped (Ok tree) (j, e) (λ h. absurd (cc h)) (λ h. absurd (cc h)))
     could_or_not (Err (Nest m)) e = inl (barrier_begins all n stopped (Err (Nest m)) (λ h. e) (λ h. absurd (cc h)) (λ h. absurd (cc h)))
     could_or_not (Err OutOfMemory) e = absurd (form_decides (with_terminal all n w.Barrier) language_limits program whole tested_whole None 0 e)
-    could_or_not (Err (Syntax m)) e = by_number (eqb m n) refl
+    could_or_not (Err (Syntax m)) e = by_number (compare m n)
       where
         told_same : (let o : Result Program Refusal = Err (Syntax m) in o) ≡ Err (Syntax n) → m ≡ n
         told_same h = cc
 
-        by_number : (same : Bool) → eqb m n ≡ same → CouldBegin all n ⊎ (CouldBegin all n → ⊥)
-        by_number true h = inr (barrier_refused all n stopped (subst (λ k. begun ≡ Err (Syntax k)) (eqb_same m n h) e))
-        by_number false h = inl (barrier_begins all n stopped (Err (Syntax m)) (λ g. e) (λ g. differ (told_same g)) (λ g. absurd (cc g)))
-          where
-            differ : m ≡ n → ⊥
-            differ g = absurd (let f : eqb m m ≡ false = subst (λ k. eqb m k ≡ false) (sym g) h in grind (arith, f))
+        elsewhere : (m ≡ n → ⊥) → CouldBegin all n
+        elsewhere differ = barrier_begins all n stopped (Err (Syntax m)) (λ g. e) (λ g. differ (told_same g)) (λ g. absurd (cc g))
+
+        by_number : (m < n) ⊎ ((m ≡ n) ⊎ (n < m)) → CouldBegin all n ⊎ (CouldBegin all n → ⊥)
+        by_number (inl less) = inl (elsewhere (λ g. omega (arith, less, g)))
+        by_number (inr (inr more)) = inl (elsewhere (λ g. omega (arith, more, g)))
+        by_number (inr (inl same)) = inr (barrier_refused all n stopped (subst (λ k. begun ≡ Err (Syntax k)) same e))
 
     unnamed : feature_of (stream all n).terminal ≡ None → ((stream all n).terminal ≡ w.At → CouldBegin all n → ⊥) → Answered all
     unnamed none never = inr (p.Syntax (stream all n).place, (λ e. absurd (cc e)), (n, stops, λ feature of. elim of [ inl a ↦ absurd (named feature a) | inr b ↦ never b.0 b.1 ]))

@@ -1,5 +1,5 @@
 -- Bytes are UTF-8, or some front of them is the longest that is.
-use Rattle.std.proofs.Common.{◌≡◌, ℕ, zero, suc, ◌<◌, ◌≤◌, ◌⊎◌, inl, inr, List, length, take, IsUtf8, refl, sym, subst, ◌∙◌, arith, ⊎_elim, true≢false, take_all}
+use Rattle.std.proofs.Common.{◌≡◌, ℕ, zero, suc, ◌<◌, ◌≤◌, ◌⊎◌, inl, inr, List, [], length, take, IsUtf8, refl, sym, subst, ◌∙◌, arith, ⊎_elim, true≢false, take_all}
 use Rattle.std.proofs.lemmas.Bool.{cases_Bool, cases_lt, cond-true, cond-false}
 use Rattle.std.proofs.lemmas.Str.{IsUtf8-from_is_utf8, is_utf8-from_IsUtf8}
 use Rattle.std.specs.Str.{IsValidUpTo, is_utf8}
