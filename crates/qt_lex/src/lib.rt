@@ -14,6 +14,4 @@ pub mod laws;
 pub mod lexer;
 mod number;
 mod scan;
-#[cfg(test)]
-mod tests;
 pub mod tokens;

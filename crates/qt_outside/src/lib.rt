@@ -5,7 +5,7 @@
 //! never fall. A refusal is told by its cause: `Failed` comes only where `faults` rose in that call,
 //! and a sink answers `OutOfMemory` only where `wants` rose. So a caller can say of its own answers
 //! when they come, without a word on files.
-//! `MemoryShelf` and `MemorySink` fail at the calls that a test lists; `SureShelf` and `SureSink`
+//! `MemoryShelf` and `MemorySink` fail at the calls that a test lists, and count their calls; `SureShelf` and `SureSink`
 //! never fail but for want of memory. The host calls the traits; its tests bring the fakes, and the
 //! program brings real files and standard output.
 #![tactic(auto)]
@@ -21,5 +21,3 @@ pub mod shelf;
 pub mod sink;
 pub mod sure_shelf;
 pub mod sure_sink;
-#[cfg(test)]
-mod tests;

@@ -2,7 +2,9 @@
 -- of literal. OpenQASM 3.0 live specification, "Identifiers", "Literals", "Built-in constants" and "Classical instructions",
 -- and the lexical grammar in its appendix.
 use Rattle.std.specs.Prelude.{ℕ, Bool, true, false, if◌then◌else◌, List, [], ◌∷◌, codes, Option, Some, None}
+use Rattle.std.specs.List.{zip}
 use Rattle.std.specs.Str.{bytes_eq}
+use Rattle.qt_lex.specs.Bytes as lexer
 use Rattle.qt_lex.specs.declared.tokens.Kind.{Kind}
 use Rattle.qt_lex.specs.declared.tokens.Kind.TheVariants as kind
 use Rattle.qt_tree.specs.declared.refusal.Feature.{Feature}
@@ -11,44 +13,35 @@ use Rattle.qt_terminals.specs.declared.terminal.Terminal.{Terminal}
 use Rattle.qt_terminals.specs.declared.terminal.Terminal.TheVariants as w
 use Rattle.qt_terminals.specs.Literals.{is_bit_text}
 
+-- the terminals of the reserved words, in the order in which the lexer's list has the words
+abbrev pub reserved_terminals : List Terminal
+reserved_terminals =
+    w.OpenQasm ∷ w.Include ∷ w.Qubit ∷ w.Qreg ∷ w.Bit ∷ w.Creg ∷ w.Bool ∷ w.Int ∷ w.Uint ∷ w.Angle ∷ w.Array ∷
+    w.Const ∷ w.Let ∷ w.Input ∷ w.Output ∷ w.Gate ∷ w.Def ∷ w.Return ∷ w.Measure ∷ w.Reset ∷ w.Barrier ∷ w.If ∷
+    w.Else ∷ w.While ∷ w.For ∷ w.In ∷ w.Break ∷ w.Continue ∷ w.EndWord ∷ w.Ctrl ∷ w.NegCtrl ∷ w.Inv ∷ w.Pow ∷
+    w.GPhase ∷ w.True ∷ w.False ∷ w.SizeOf ∷ w.Float ∷ w.Complex ∷ w.Duration ∷ w.Stretch ∷ w.Delay ∷ w.Box ∷
+    w.DurationOf ∷ w.Cal ∷ w.DefCal ∷ w.DefCalGrammar ∷ w.Extern ∷ w.Pragma ∷ w.Euler ∷ w.Switch ∷ w.Case ∷
+    w.Default ∷ []
+
 unfoldable pub reserved_words : List (List ℕ × Terminal)
-reserved_words =
-    (codes "OPENQASM", w.OpenQasm) ∷ (codes "include", w.Include) ∷ (codes "qubit", w.Qubit) ∷
-    (codes "qreg", w.Qreg) ∷ (codes "bit", w.Bit) ∷ (codes "creg", w.Creg) ∷ (codes "bool", w.Bool) ∷
-    (codes "int", w.Int) ∷ (codes "uint", w.Uint) ∷ (codes "angle", w.Angle) ∷ (codes "array", w.Array) ∷
-    (codes "const", w.Const) ∷ (codes "let", w.Let) ∷ (codes "input", w.Input) ∷ (codes "output", w.Output) ∷
-    (codes "gate", w.Gate) ∷ (codes "def", w.Def) ∷ (codes "return", w.Return) ∷ (codes "measure", w.Measure) ∷
-    (codes "reset", w.Reset) ∷ (codes "barrier", w.Barrier) ∷ (codes "if", w.If) ∷ (codes "else", w.Else) ∷
-    (codes "while", w.While) ∷ (codes "for", w.For) ∷ (codes "in", w.In) ∷ (codes "break", w.Break) ∷
-    (codes "continue", w.Continue) ∷ (codes "end", w.EndWord) ∷ (codes "ctrl", w.Ctrl) ∷
-    (codes "negctrl", w.NegCtrl) ∷ (codes "inv", w.Inv) ∷ (codes "pow", w.Pow) ∷ (codes "gphase", w.GPhase) ∷
-    (codes "true", w.True) ∷ (codes "false", w.False) ∷ (codes "sizeof", w.SizeOf) ∷ (codes "float", w.Float) ∷
-    (codes "complex", w.Complex) ∷ (codes "duration", w.Duration) ∷ (codes "stretch", w.Stretch) ∷
-    (codes "delay", w.Delay) ∷ (codes "box", w.Box) ∷ (codes "durationof", w.DurationOf) ∷ (codes "cal", w.Cal) ∷
-    (codes "defcal", w.DefCal) ∷ (codes "defcalgrammar", w.DefCalGrammar) ∷ (codes "extern", w.Extern) ∷
-    (codes "pragma", w.Pragma) ∷ (codes "euler", w.Euler) ∷ (codes "switch", w.Switch) ∷ (codes "case", w.Case) ∷
-    (codes "default", w.Default) ∷ []
+reserved_words = zip lexer.reserved_words reserved_terminals
+
+-- the same for the symbols
+abbrev pub symbol_terminals : List Terminal
+symbol_terminals =
+    w.LeftParen ∷ w.RightParen ∷ w.LeftBracket ∷ w.RightBracket ∷ w.LeftBrace ∷ w.RightBrace ∷ w.Semicolon ∷
+    w.Comma ∷ w.Colon ∷ w.At ∷ w.Arrow ∷ w.Assign ∷ w.EqualEqual ∷ w.NotEqual ∷ w.Less ∷ w.LessEqual ∷ w.Greater ∷
+    w.GreaterEqual ∷ w.ShiftLeft ∷ w.ShiftRight ∷ w.Plus ∷ w.Minus ∷ w.Star ∷ w.Slash ∷ w.Percent ∷ w.StarStar ∷
+    w.PlusPlus ∷ w.And ∷ w.AndAnd ∷ w.Or ∷ w.OrOr ∷ w.Caret ∷ w.Bang ∷ w.Tilde ∷ w.PlusAssign ∷ w.MinusAssign ∷
+    w.StarAssign ∷ w.SlashAssign ∷ w.PercentAssign ∷ w.StarStarAssign ∷ w.AndAssign ∷ w.OrAssign ∷ w.CaretAssign ∷
+    w.ShiftLeftAssign ∷ w.ShiftRightAssign ∷ []
 
 unfoldable pub symbols : List (List ℕ × Terminal)
-symbols =
-    (codes "(", w.LeftParen) ∷ (codes ")", w.RightParen) ∷ (codes "[", w.LeftBracket) ∷ (codes "]", w.RightBracket) ∷
-    (codes "{", w.LeftBrace) ∷ (codes "}", w.RightBrace) ∷ (codes ";", w.Semicolon) ∷ (codes ",", w.Comma) ∷
-    (codes ":", w.Colon) ∷ (codes "@", w.At) ∷ (codes "->", w.Arrow) ∷ (codes "=", w.Assign) ∷
-    (codes "==", w.EqualEqual) ∷ (codes "!=", w.NotEqual) ∷ (codes "<", w.Less) ∷ (codes "<=", w.LessEqual) ∷
-    (codes ">", w.Greater) ∷ (codes ">=", w.GreaterEqual) ∷ (codes "<<", w.ShiftLeft) ∷ (codes ">>", w.ShiftRight) ∷
-    (codes "+", w.Plus) ∷ (codes "-", w.Minus) ∷ (codes "*", w.Star) ∷ (codes "/", w.Slash) ∷
-    (codes "%", w.Percent) ∷ (codes "**", w.StarStar) ∷ (codes "++", w.PlusPlus) ∷ (codes "&", w.And) ∷
-    (codes "&&", w.AndAnd) ∷ (codes "|", w.Or) ∷ (codes "||", w.OrOr) ∷ (codes "^", w.Caret) ∷ (codes "!", w.Bang) ∷
-    (codes "~", w.Tilde) ∷ (codes "+=", w.PlusAssign) ∷ (codes "-=", w.MinusAssign) ∷ (codes "*=", w.StarAssign) ∷
-    (codes "/=", w.SlashAssign) ∷ (codes "%=", w.PercentAssign) ∷ (codes "**=", w.StarStarAssign) ∷
-    (codes "&=", w.AndAssign) ∷ (codes "|=", w.OrAssign) ∷ (codes "^=", w.CaretAssign) ∷
-    (codes "<<=", w.ShiftLeftAssign) ∷ (codes ">>=", w.ShiftRightAssign) ∷ []
+symbols = zip lexer.symbols symbol_terminals
 
 -- `pi`, `tau`, `π`, `τ`
 unfoldable pub constants : List (List ℕ × Terminal)
-constants =
-    (codes "pi", w.Pi) ∷ (codes "tau", w.Tau) ∷ (207 ∷ 128 ∷ [], w.Pi) ∷
-    (207 ∷ 132 ∷ [], w.Tau) ∷ []
+constants = zip lexer.constants (w.Pi ∷ w.Tau ∷ w.Pi ∷ w.Tau ∷ [])
 
 unfoldable pub hashes : List (List ℕ × Terminal)
 hashes = (codes "#pragma", w.HashPragma) ∷ (codes "#dim", w.HashDim) ∷ []

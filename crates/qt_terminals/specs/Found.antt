@@ -1,5 +1,5 @@
--- What a token stream keeps: the terminals of its tokens and their counts of operators. These terminals serve the contracts inside
--- this crate.
+-- What a token stream keeps: the terminals of its tokens and their counts of operators. These definitions serve the contracts
+-- inside this crate.
 use Rattle.std.specs.Prelude.{ℕ, List, [], ◌∷◌}
 use Rattle.qt_lex.specs.declared.tokens.Token.{Token}
 use Rattle.qt_terminals.specs.declared.terminal.Terminal.{Terminal}

@@ -22,7 +22,7 @@ pub fn integers_fit(text: &str, file: u16)
     ensures { (tokens : List Token) → GivesTokens text.now file tokens → All (λ t. t.kind ≡ kind.Integer → integer_of (spelling_of text.now t) < 2 ^ 64) tokens }
 {}
 
-/// Each reserved word, symbol and constant of the lexer has its row in the table of terminals.
+/// Each reserved word, symbol and constant of the lexer has its row in the tables of terminals.
 #[tactic(auto, unfolding(crate::specs::Alphabet::reserved_words, crate::specs::Alphabet::symbols, crate::specs::Alphabet::constants))]
 pub fn each_spelling_has_a_terminal()
     ensures reserved { map (λ row. row.0) alphabet.reserved_words ≡ bytes.reserved_words }
@@ -32,7 +32,7 @@ pub fn each_spelling_has_a_terminal()
 
 /// The last terminal of a text is its end, and no other terminal is.
 #[tactic(auto, using(crate::proofs::Ends::ends_once))]
-pub fn words_end_once(text: &str, file: u16)
+pub fn terminals_end_once(text: &str, file: u16)
     ensures { (tokens : List Token) → GivesTokens text.now file tokens → EndsOnce (terminals text.now tokens) }
 {}
 

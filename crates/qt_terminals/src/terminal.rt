@@ -24,7 +24,7 @@ pub enum Terminal {
     Pi,
     /// `tau` or `τ`.
     Tau,
-    /// The terminal `euler`, or its letter `ℇ`.
+    /// The word `euler`, or its letter `ℇ`.
     Euler,
     /// A whole number above 2^64 - 1, or a text of more than 64 binary digits.
     Wide,
@@ -38,7 +38,7 @@ pub enum Terminal {
     HashPragma,
     /// `#dim`.
     HashDim,
-    /// Any other terminal behind a `#`.
+    /// Any other word behind a `#`.
     Hash,
     OpenQasm,
     Include,
@@ -192,7 +192,7 @@ impl Terminal {
         self as u8
     }
 
-    /// Whether the terminal is another, by their numbers.
+    /// Whether the terminal is that one, by their numbers.
     pub fn is(self, other: Terminal) -> bool
         ensures { result ≡ eqb (spec.code self) (spec.code other) }
     {
