@@ -1,5 +1,5 @@
 -- Tokens spell a program, or one of them is refused for a reason.
-use Rattle.std.proofs.Common.{◌≡◌, ◌≢◌, ℕ, ◌<◌, ◌⊎◌, inl, inr, Bool, true, false, eqb, List, length, Option, Some, None, Result, Ok, Err, refl, sym, ap, subst, ◌∙◌, arith}
+use Rattle.std.proofs.Common.{◌≡◌, ◌≢◌, ℕ, ◌<◌, ◌⊎◌, inl, inr, Bool, true, false, eqb, List, Option, Some, None, Result, Ok, Err, refl, ap, subst, arith}
 use Rattle.qt_tree.specs.declared.program.Program.{Program}
 use Rattle.qt_tree.specs.declared.refusal.Feature.{Feature}
 use Rattle.qt_tree.specs.declared.refusal.Feature.TheVariants.{Annotation}
