@@ -5,9 +5,9 @@
 //! never fall. A refusal is told by its cause: `Failed` comes only where `faults` rose in that call,
 //! and a sink answers `OutOfMemory` only where `wants` rose. So a caller can say of its own answers
 //! when they come, without a word on files.
-//! `MemoryShelf` and `MemorySink` fail at the calls that a test lists, and count their calls; `SureShelf` and `SureSink`
-//! never fail but for want of memory. The host calls the traits; its tests bring the fakes, and the
-//! program brings real files and standard output.
+//! `MemoryShelf` and `MemorySink` fail at the calls that a caller lists, count their calls and keep
+//! what each had; `SureShelf` and `SureSink` never fail but for want of memory. The host calls the
+//! traits; its cases bring the fakes, and the program brings real files and standard output.
 #![tactic(auto)]
 
 pub mod asked;
