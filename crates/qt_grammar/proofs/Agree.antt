@@ -6,7 +6,7 @@ use Rattle.qt_grammar.specs.Sorts.{Sort, Value, Name, sort}
 use Rattle.qt_grammar.specs.Form.{Form, one, operator, counted, here, empty, as_tree, then_, either, maybe, nearest, chain, named, member, terminal_at, begun, Reading, Opening, ReadsBy, OpensBy, ReadsThen, OpensThen, ReadsMore, OpensChain, pair_of, stepped}
 use Rattle.qt_grammar.specs.Lookahead.{first, nullable, first_of}
 use Rattle.qt_grammar.specs.Language.{rule}
-use Rattle.qt_grammar.specs.Reading.{ReadsTo, OpensTo}
+use Rattle.qt_grammar.specs.Spelling.{ReadsTo, OpensTo}
 use Rattle.qt_grammar.proofs.Sane.{Sane, same_or_before}
 use Rattle.qt_grammar.proofs.LookaheadTests.{In, and_left, and_right, follow, follow_of, good}
 use Rattle.qt_grammar.proofs.Forms.{Sound, sound}

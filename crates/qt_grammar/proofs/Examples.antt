@@ -8,7 +8,7 @@ use Rattle.qt_grammar.specs.declared.refusal.Refusal.TheVariants.{Nest, OutOfMem
 use Rattle.qt_grammar.specs.Sorts.{Value, expr}
 use Rattle.qt_grammar.specs.Outcome.{Outcome}
 use Rattle.qt_grammar.specs.Language.{expression}
-use Rattle.qt_grammar.specs.Reading.{limits_at}
+use Rattle.qt_grammar.specs.Spelling.{limits_at}
 use Rattle.qt_grammar.proofs.Lists.{reading}
 
 abbrev token : Terminal → ℕ → PlacedTerminal

@@ -7,7 +7,8 @@ use Rattle.qt_grammar.specs.Form.{Form, member, terminal_at}
 use Rattle.qt_grammar.specs.Outcome.{Outcome}
 use Rattle.qt_grammar.specs.Language.{rule}
 use Rattle.qt_grammar.specs.Lookahead.{first, nullable, first_of}
-use Rattle.qt_grammar.specs.Reading.{run, run_to, ReadsTo, OpensTo}
+use Rattle.qt_grammar.specs.Spelling.{ReadsTo, OpensTo}
+use Rattle.qt_grammar.specs.Reading.{run, run_to}
 use Rattle.qt_grammar.proofs.Munch.{Found, Held, Gives}
 use Rattle.qt_grammar.proofs.LookaheadTests.{In, subset_sound, not_true, follow, good}
 use Rattle.qt_grammar.proofs.Tables.{tested, solid_rule, first_rule, rule_first, direct_rule}

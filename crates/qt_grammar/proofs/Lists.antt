@@ -6,7 +6,8 @@ use Rattle.qt_terminals.specs.Terminals.{PlacedTerminal, stream, with_terminal, 
 use Rattle.qt_grammar.specs.Sorts.{Sort, Value}
 use Rattle.qt_grammar.specs.Form.{Form, terminal_at}
 use Rattle.qt_grammar.specs.Outcome.{Outcome}
-use Rattle.qt_grammar.specs.Reading.{Limits, run, run_to}
+use Rattle.qt_grammar.specs.Spelling.{Limits}
+use Rattle.qt_grammar.specs.Reading.{run, run_to}
 
 -- a form of a list of tokens, read from a place on within limits
 unfoldable pub reading : List PlacedTerminal → Limits → {s : Sort} → Form s → Option ℕ → ℕ → Outcome (Value s)

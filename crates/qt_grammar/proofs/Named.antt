@@ -6,7 +6,8 @@ use Rattle.qt_grammar.specs.Sorts.{Sort, Value, Name, sort}
 use Rattle.qt_grammar.specs.Form.{Form, member, terminal_at, Reading, Opening, ReadsBy, OpensBy}
 use Rattle.qt_grammar.specs.Language.{rule}
 use Rattle.qt_grammar.specs.Lookahead.{first, nullable, first_of}
-use Rattle.qt_grammar.specs.Reading.{run, run_to, ReadsTo, OpensTo}
+use Rattle.qt_grammar.specs.Spelling.{ReadsTo, OpensTo}
+use Rattle.qt_grammar.specs.Reading.{run, run_to}
 use Rattle.qt_grammar.proofs.Sane.{Sane, sane-weaker}
 use Rattle.qt_grammar.proofs.Munch.{Gives, gives_weaker}
 use Rattle.qt_grammar.proofs.LookaheadTests.{In, subset_sound, follow, follow_of, good}

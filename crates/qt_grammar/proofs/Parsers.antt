@@ -8,7 +8,8 @@ use Rattle.qt_grammar.specs.Sorts.{Sort, Value, expr, program}
 use Rattle.qt_grammar.specs.Form.{Form}
 use Rattle.qt_grammar.specs.Outcome.{Outcome, Says, Tells}
 use Rattle.qt_grammar.specs.Language.{expression, whole}
-use Rattle.qt_grammar.specs.Reading.{Limits, language_limits, limits_at, run, run_to}
+use Rattle.qt_grammar.specs.Spelling.{Limits, language_limits, limits_at}
+use Rattle.qt_grammar.specs.Reading.{run, run_to}
 use Rattle.qt_grammar.specs.Promise.{Answers, Parses, CouldBegin}
 use Rattle.qt_grammar.proofs.LookaheadTests.{good}
 use Rattle.qt_grammar.proofs.Tables.{tested_whole, tested_expression}

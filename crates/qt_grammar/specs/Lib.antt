@@ -6,3 +6,4 @@ pub mod Outcome
 pub mod Promise
 pub mod Reading
 pub mod Sorts
+pub mod Spelling

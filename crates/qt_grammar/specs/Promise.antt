@@ -1,78 +1,62 @@
--- What reading promises: which outcome is right. A list of tokens 'opens' a form where it is a viable prefix of it, in the
--- field's words: Aho, Lam, Sethi and Ullman, "Compilers", section 4.1, on the errors of parsers.
+-- What reading promises: which outcome is right, by what spells a form and what opens it. A list of tokens 'opens' a form where it
+-- is a viable prefix of it, in the field's words: Aho, Lam, Sethi and Ullman, "Compilers", section 4.1, on the errors of parsers.
 use Rattle.std.specs.Prelude.{◌≡◌, ℕ, ◌+◌, ◌≤◌, List, Option, None, Result, Ok, Err}
 use Rattle.qt_grammar.specs.declared.refusal.Refusal.{Refusal}
 use Rattle.qt_grammar.specs.declared.refusal.Refusal.TheVariants.{Syntax, Nest, OutOfMemory}
 use Rattle.qt_terminals.specs.declared.terminal.Terminal.TheVariants as w
 use Rattle.qt_terminals.specs.Terminals.{PlacedTerminal, stream, with_terminal}
 use Rattle.qt_grammar.specs.Sorts.{Sort, Value, program}
-use Rattle.qt_grammar.specs.Form.{Form, ReadsBy, OpensBy}
+use Rattle.qt_grammar.specs.Form.{Form}
 use Rattle.qt_grammar.specs.Outcome.{Outcome}
 use Rattle.qt_grammar.specs.Language.{whole}
-use Rattle.qt_grammar.specs.Reading.{Limits, ReadsTo, OpensTo}
+use Rattle.qt_grammar.specs.Spelling.{Limits}
+-- passed on to those who look for them here
+pub use Rattle.qt_grammar.specs.Spelling.{Spells, Opens, SpellsAtAll, OpensAtAll, SpellsProgram}
 
 -- a form, read from a place on; `outer` is the number of operators before the outermost expression round that place
 module _ (ts : ℕ → PlacedTerminal) (s : Sort) (f : Form s) (outer : Option ℕ) (i : ℕ) where
-  -- the tokens up to place j spell a tree, within limits
-  abbrev pub Spells : Limits → Value s → ℕ → Type 0
-  Spells l v j = ReadsBy ts l.operators (ReadsTo ts l.operators l.levels) f outer i v j
-
-  -- the tokens up to place j open the form, within limits
-  abbrev pub Opens : Limits → ℕ → Type 0
-  Opens l j = OpensBy ts l.operators (ReadsTo ts l.operators l.levels) (OpensTo ts l.operators l.levels) f outer i j
-
-  -- the same, whatever the limits
-  abbrev pub SpellsAtAll : Value s → ℕ → Type 0
-  SpellsAtAll v j = (l : Limits) × Spells l v j
-
-  abbrev pub OpensAtAll : ℕ → Type 0
-  OpensAtAll j = (l : Limits) × Opens l j
-
   -- the longest list of tokens that opens the form ends before place j; the limits play no part
   pub record LongestPrefix (j : ℕ) : Type 0 where
-    pub opens : OpensAtAll j
-    pub longest : (k : ℕ) → OpensAtAll k → k ≤ j
+    pub opens : OpensAtAll ts s f outer i j
+    pub longest : (k : ℕ) → OpensAtAll ts s f outer i k → k ≤ j
 
   -- that list is the form, with this tree and no other, and within the limits: none of its tokens is too deep
   pub record Tree (l : Limits) (v : Value s) (j : ℕ) : Type 0 where
-    pub spells : Spells l v j
+    pub spells : Spells ts s f outer i l v j
     pub longest : LongestPrefix j
-    pub only : (w : Value s) → SpellsAtAll w j → w ≡ v
+    pub only : (w : Value s) → SpellsAtAll ts s f outer i w j → w ≡ v
 
   -- that list isn't the form: the token behind it is the stopper
   pub record Stopper (n : ℕ) : Type 0 where
     pub longest : LongestPrefix n
-    pub none : (v : Value s) → SpellsAtAll v n → ⊥
+    pub none : (v : Value s) → SpellsAtAll ts s f outer i v n → ⊥
 
   -- the first token that is too deep, or an operator too many: the tokens before it open the form within the limits, but with
   -- this one only within larger limits
   pub record FirstTooDeep (l : Limits) (n : ℕ) : Type 0 where
-    pub before : Opens l n
-    pub limit : (k : ℕ) → Opens l k → k ≤ n
-    pub larger : OpensAtAll (n + 1)
+    pub before : Opens ts s f outer i l n
+    pub limit : (k : ℕ) → Opens ts s f outer i l k → k ≤ n
+    pub larger : OpensAtAll ts s f outer i (n + 1)
 
   -- the outcome is right: a tree; or the stopper, where no token before it is too deep; or the first token too deep, which
   -- stands before the stopper, if there is one, since with it the tokens still open the form
   abbrev pub Answers : Limits → Outcome (Value s) → Type 0
   Answers l (Ok z) = Tree l z.0 z.1
-  Answers l (Err (Syntax n)) = Opens l n × Stopper n
+  Answers l (Err (Syntax n)) = Opens ts s f outer i l n × Stopper n
   Answers l (Err (Nest n)) = FirstTooDeep l n
   Answers l (Err OutOfMemory) = Unit {0}
 
 -- ---- a program, which ends with the end of the text
 
 module _ (ts : ℕ → PlacedTerminal) where
-  abbrev pub SpellsProgram : Limits → Value program → Type 0
-  SpellsProgram l p = (j : ℕ) × Spells ts program whole None 0 l p j
-
   -- the tokens spell this program within the limits, and no other whatever the limits
   pub record OnlyProgram (l : Limits) (p : Value program) : Type 0 where
-    pub spells : SpellsProgram l p
-    pub only : (m : Limits) (q : Value program) → SpellsProgram m q → q ≡ p
+    pub spells : SpellsProgram ts l p
+    pub only : (m : Limits) (q : Value program) → SpellsProgram ts m q → q ≡ p
 
   -- the tokens spell no program whatever the limits, and this is the stopper; no token before it is too deep
   pub record NoProgram (l : Limits) (n : ℕ) : Type 0 where
-    pub none : (m : Limits) (p : Value program) → SpellsProgram m p → ⊥
+    pub none : (m : Limits) (p : Value program) → SpellsProgram ts m p → ⊥
     pub longest : LongestPrefix ts program whole None 0 n
     pub before : Opens ts program whole None 0 l n
 

@@ -1,12 +1,15 @@
 -- Reading from the left, with one token of lookahead, within limits: so many levels of forms with names, and at most `cap`
--- operators in one expression that stands in no other. Aho, Lam, Sethi and Ullman, "Compilers", section 4.4, predictive parsing.
-use Rattle.std.specs.Prelude.{◌≡◌, ℕ, zero, suc, ◌+◌, ◌-◌, Bool, if◌then◌else◌, Option, Some, None, Ok, Err}
+-- operators in one expression that stands in no other. What is right to read is said in `Spelling` and `Promise`; this is how it is
+-- read. Aho, Lam, Sethi and Ullman, "Compilers", section 4.4, predictive parsing.
+use Rattle.std.specs.Prelude.{ℕ, zero, suc, ◌+◌, Bool, if◌then◌else◌, Option, Some, None, Ok, Err}
 use Rattle.qt_grammar.specs.declared.refusal.Refusal.TheVariants.{Syntax, Nest}
 use Rattle.qt_terminals.specs.Terminals.{PlacedTerminal}
 use Rattle.qt_grammar.specs.Sorts.{Sort, Value, Name, sort}
-use Rattle.qt_grammar.specs.Form.{Form, one, operator, counted, here, empty, as_tree, then_, either, maybe, nearest, chain, named, member, terminal_at, begun, within, Reading, Opening, ReadsBy, OpensBy, pair_of, stepped}
+use Rattle.qt_grammar.specs.Form.{Form, one, operator, counted, here, empty, as_tree, then_, either, maybe, nearest, chain, named, member, terminal_at, begun, within, pair_of, stepped}
 use Rattle.qt_grammar.specs.Outcome.{Outcome, and_then, more_of}
 use Rattle.qt_grammar.specs.Language.{rule}
+-- passed on to those who look for them here
+pub use Rattle.qt_grammar.specs.Spelling.{ReadsTo, OpensTo, Limits, language_limits, limits_at}
 use Rattle.qt_grammar.specs.Lookahead.{nullable, joined, first_of, first}
 
 -- the rest of a chain: separators and operands, as long as the next token begins one
@@ -36,28 +39,3 @@ module _ (ts : ℕ → PlacedTerminal) (cap turns : ℕ) where
   abbrev pub run_to : ℕ → (n : Name) → Option ℕ → ℕ → Outcome (Value (sort n))
   run_to zero n outer i = if member (terminal_at ts i) (first_of n) then Err (Nest i) else Err (Syntax i)
   run_to (suc d) n outer i = run (run_to d) (rule n) outer i
-
--- what a form with a name reads and opens within so many levels
-module _ (ts : ℕ → PlacedTerminal) (cap : ℕ) where
-  abbrev pub ReadsTo : ℕ → (n : Name) → Option ℕ → Reading (Value (sort n))
-  ReadsTo zero n outer = λ i v j. ⊥
-  ReadsTo (suc d) n outer = ReadsBy ts cap (ReadsTo d) (rule n) outer
-
-  abbrev pub OpensTo : ℕ → (n : Name) → Option ℕ → Opening
-  OpensTo zero n outer = λ i j. j ≡ i
-  OpensTo (suc d) n outer = OpensBy ts cap (ReadsTo d) (OpensTo d) (rule n) outer
-
--- ---- the limits of the language
-
--- how many levels of forms with names, and how many operators in one expression that stands in no other
-pub record Limits : Type 0 where
-  pub levels : ℕ
-  pub operators : ℕ
-
--- a token stands in at most 64 forms that count, and an expression has at most 256 operators
-abbrev pub language_limits : Limits
-language_limits = record { levels = 64; operators = 256 }
-
--- the same for a form that itself stands at some depth, which is no more than the levels
-abbrev pub limits_at : ℕ → Limits
-limits_at depth = record { levels = language_limits.levels - depth; operators = language_limits.operators }

@@ -6,8 +6,9 @@ use Rattle.qt_grammar.specs.declared.refusal.Refusal.TheVariants.{Syntax, Nest, 
 use Rattle.qt_grammar.specs.Sorts.{Value, expr, program}
 use Rattle.qt_grammar.specs.Outcome.{Outcome}
 use Rattle.qt_grammar.specs.Language.{expression, whole}
-use Rattle.qt_grammar.specs.Reading.{Limits}
-use Rattle.qt_grammar.specs.Promise.{Opens, OpensAtAll, Stopper, FirstTooDeep, Answers, SpellsProgram, Parses}
+use Rattle.qt_grammar.specs.Spelling.{Limits}
+use Rattle.qt_grammar.specs.Spelling.{Opens, OpensAtAll, SpellsProgram}
+use Rattle.qt_grammar.specs.Promise.{Stopper, FirstTooDeep, Answers, Parses}
 
 -- tokens spell one program at most, whatever the limits
 abbrev pub OneProgram : Type 0
