@@ -7,11 +7,10 @@ use Rattle.qt_grammar.specs.declared.refusal.Refusal.TheVariants.{Syntax, Nest, 
 use Rattle.qt_grammar.specs.Sorts.{Sort, Value, program}
 use Rattle.qt_grammar.specs.Form.{Form, one, operator, counted, here, empty, as_tree, then_, either, maybe, nearest, chain, named, terminal_at}
 use Rattle.qt_grammar.specs.Outcome.{Outcome, Tells}
-use Rattle.qt_grammar.specs.Spelling.{Limits}
+use Rattle.qt_grammar.specs.Spelling.{Limits, OpensAtAll}
 use Rattle.qt_grammar.proofs.Lists.{reading, past, same_before}
 use Rattle.qt_grammar.specs.Lookahead.{first, nullable}
 use Rattle.qt_grammar.specs.Language.{whole}
-use Rattle.qt_grammar.specs.Spelling.{OpensAtAll}
 use Rattle.qt_grammar.specs.Promise.{CouldBegin}
 use Rattle.qt_grammar.proofs.Sane.{same_or_before, reads-ahead}
 use Rattle.qt_grammar.proofs.Munch.{Found, Held}

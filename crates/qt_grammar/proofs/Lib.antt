@@ -16,3 +16,10 @@ pub mod Begins
 pub mod Examples
 pub mod Parsers
 pub mod Theorems
+pub mod DepthTests
+pub mod Constructs
+pub mod Bounds
+pub mod Shallow
+pub mod Levels
+pub mod Flat
+pub mod Counts

@@ -8,8 +8,7 @@ use Rattle.qt_grammar.specs.Form.{Form, terminal_at}
 use Rattle.qt_grammar.specs.Outcome.{Outcome, Says, Tells}
 use Rattle.qt_grammar.specs.Language.{whole}
 use Rattle.qt_grammar.specs.Lookahead.{first, nullable}
-use Rattle.qt_grammar.specs.Spelling.{Limits}
-use Rattle.qt_grammar.specs.Spelling.{Spells, Opens}
+use Rattle.qt_grammar.specs.Spelling.{Limits, Spells, Opens}
 use Rattle.qt_grammar.specs.Promise.{LongestPrefix, Tree, Stopper, FirstTooDeep, Answers, OnlyProgram, NoProgram, Parses}
 use Rattle.qt_grammar.proofs.Munch.{Found, Held}
 use Rattle.qt_grammar.proofs.LookaheadTests.{In, follow, good}

@@ -6,9 +6,8 @@ use Rattle.qt_grammar.specs.declared.refusal.Refusal.TheVariants.{Syntax, Nest, 
 use Rattle.qt_grammar.specs.Sorts.{Value, program, expr}
 use Rattle.qt_grammar.specs.Outcome.{Outcome}
 use Rattle.qt_grammar.specs.Language.{expression, whole}
-use Rattle.qt_grammar.specs.Spelling.{Limits}
+use Rattle.qt_grammar.specs.Spelling.{Limits, Opens}
 use Rattle.qt_grammar.proofs.Lists.{reading}
-use Rattle.qt_grammar.specs.Spelling.{Opens}
 use Rattle.qt_grammar.specs.Promise.{Answers, Parses}
 use Rattle.qt_grammar.specs.Theorems.{OneProgram, SomeParse, OneParse, SomeAnswer, OneAnswer, OpensOnTheWay, LargerLimitsSpellMore, TooDeepBeforeStopper, SpelledIsParsed, TooDeepIsTold, StopperIsTold}
 use Rattle.qt_grammar.proofs.Tables.{tested_whole, tested_expression}

@@ -1,5 +1,6 @@
 pub mod Form
 pub mod Language
+pub mod Depth
 pub mod Theorems
 pub mod Lookahead
 pub mod Outcome
@@ -7,3 +8,4 @@ pub mod Promise
 pub mod Reading
 pub mod Sorts
 pub mod Spelling
+pub mod Operators

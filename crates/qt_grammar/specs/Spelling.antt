@@ -1,6 +1,6 @@
 -- Which tokens spell a form of the grammar with which tree, and which tokens open it, within limits: so many levels of forms with
 -- names, and so many operators in one expression that stands in no other. How they are found is another matter: nothing here reads
--- from the left.
+-- from the left. That a level is what the language counts is said in `Depth`.
 use Rattle.std.specs.Prelude.{◌≡◌, ℕ, zero, suc, ◌-◌, Option, None}
 use Rattle.qt_terminals.specs.Terminals.{PlacedTerminal}
 use Rattle.qt_grammar.specs.Sorts.{Sort, Value, Name, sort, program}

@@ -1,13 +1,15 @@
 -- The laws of the grammar and of reading it.
-use Rattle.std.specs.Prelude.{◌≡◌, ◌≢◌, ℕ, ◌≤◌, ◌<◌, List, Option, None, Result, Ok, Err}
+use Rattle.std.specs.Prelude.{◌≡◌, ◌≢◌, ℕ, ◌≤◌, ◌<◌, ◌↔◌, List, Option, None, Result, Ok, Err}
 use Rattle.qt_terminals.specs.Terminals.{PlacedTerminal, stream}
 use Rattle.qt_grammar.specs.declared.refusal.Refusal.{Refusal}
 use Rattle.qt_grammar.specs.declared.refusal.Refusal.TheVariants.{Syntax, Nest, OutOfMemory}
-use Rattle.qt_grammar.specs.Sorts.{Value, expr, program}
+use Rattle.qt_grammar.specs.Sorts.{Sort, Value, expr, program}
 use Rattle.qt_grammar.specs.Outcome.{Outcome}
 use Rattle.qt_grammar.specs.Language.{expression, whole}
-use Rattle.qt_grammar.specs.Spelling.{Limits}
-use Rattle.qt_grammar.specs.Spelling.{Opens, OpensAtAll, SpellsProgram}
+use Rattle.qt_grammar.specs.Spelling.{Limits, Spells, Opens, OpensAtAll, SpellsProgram}
+use Rattle.qt_grammar.specs.Depth.{Spelling, SpelledAt, Beginning, OpenedAt, SpellsNoDeeper, OpensNoDeeper}
+use Rattle.qt_grammar.specs.Operators.{flat_expression}
+use Rattle.qt_grammar.specs.Form.{Form}
 use Rattle.qt_grammar.specs.Promise.{Stopper, FirstTooDeep, Answers, Parses}
 
 -- tokens spell one program at most, whatever the limits
@@ -52,3 +54,32 @@ TooDeepIsTold = (all : List PlacedTerminal) (l : Limits) (k : ℕ) → OpensAtAl
 -- where there is a stopper, and the list before it opens a program within the limits, the stopper is answered
 abbrev pub StopperIsTold : Type 0
 StopperIsTold = (all : List PlacedTerminal) (l : Limits) (n : ℕ) → Stopper (stream all) program whole None 0 n → Opens (stream all) program whole None 0 l n → Parses (stream all) l (Err (Syntax n))
+
+-- ---- the limits, in the language's words
+
+-- Within so many levels the tokens spell an expression exactly where they spell it whatever the levels, with no token in more
+-- parentheses, brackets, braces, operands of unary operators and right sides of `**`; and the same of what opens it.
+abbrev pub LevelsOfExpressionAreDepth : Type 0
+LevelsOfExpressionAreDepth = (all : List PlacedTerminal) (l : Limits) (outer : Option ℕ) (i j : ℕ)
+    → ((v : Value expr) → Spells (stream all) expr expression outer i l v j ↔ SpellsNoDeeper (stream all) expr expression outer i l v j)
+    × (Opens (stream all) expr expression outer i l j ↔ OpensNoDeeper (stream all) expr expression outer i l j)
+
+-- The same of a program, with the bodies that a token stands in, where at least one level is allowed. With none the names of a
+-- gate's angles would stand too deep, but they are in no form with a name.
+abbrev pub LevelsOfProgramAreDepth : Type 0
+LevelsOfProgramAreDepth = (all : List PlacedTerminal) (l : Limits) → 1 ≤ l.levels → (j : ℕ)
+    → ((p : Value program) → Spells (stream all) program whole None 0 l p j ↔ SpellsNoDeeper (stream all) program whole None 0 l p j)
+    × (Opens (stream all) program whole None 0 l j ↔ OpensNoDeeper (stream all) program whole None 0 l j)
+
+-- each token of a form that is spelled, or opened, stands in some number of constructs
+abbrev pub EachTokenStands : Type 0
+EachTokenStands = (all : List PlacedTerminal) (operators : ℕ) (s : Sort) (f : Form s) (outer : Option ℕ) (i j k : ℕ) → i ≤ k → k < j
+    → ((v : Value s) (h : Spelling (stream all) s f outer i operators v j) → (depth : ℕ) × SpelledAt (stream all) s f outer i operators v j h k depth)
+    × ((h : Beginning (stream all) s f outer i operators j) → (depth : ℕ) × OpenedAt (stream all) s f outer i operators j h k depth)
+
+-- Strengths aside, tokens spell an expression exactly where they spell factors with binary operators between, and the same of what
+-- opens it, whatever the limits.
+abbrev pub StrengthsOnlyGroup : Type 0
+StrengthsOnlyGroup = (all : List PlacedTerminal) (l : Limits) (outer : Option ℕ) (i j : ℕ)
+    → (((v : Value expr) × Spells (stream all) expr expression outer i l v j) ↔ ((v : Value expr) × Spells (stream all) expr flat_expression outer i l v j))
+    × (Opens (stream all) expr expression outer i l j ↔ Opens (stream all) expr flat_expression outer i l j)

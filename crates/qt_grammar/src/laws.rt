@@ -42,3 +42,17 @@ pub fn parse_is_exact()
     ensures too_deep { theorem.TooDeepIsTold }
     ensures stopper { theorem.StopperIsTold }
 {}
+
+/// The limit on levels is one on depth: what is spelled or opened within so many levels is what is spelled or opened whatever the
+/// levels, with no token in more parentheses, brackets, braces, bodies, operands of unary operators and right sides of `**`. Each
+/// token stands in some number of these.
+pub fn levels_are_depth()
+    ensures expression { theorem.LevelsOfExpressionAreDepth }
+    ensures program { theorem.LevelsOfProgramAreDepth }
+    ensures each_token { theorem.EachTokenStands }
+{}
+
+/// The strengths of operators say how tokens group, and not whether they spell or open an expression.
+pub fn strengths_only_group()
+    ensures { theorem.StrengthsOnlyGroup }
+{}
