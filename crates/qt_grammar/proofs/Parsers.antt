@@ -32,25 +32,25 @@ pub form_decides : (all : List PlacedTerminal) (l : Limits) (s : Sort) (f : Form
 unfolding reading
 form_decides all l s f g outer i h = given (stream all) (length all) (past all) l.operators l.levels f g outer i (Err OutOfMemory) h
 
--- ---- for the parsers, whose outcomes are `run` of the stream of all tokens, with at most 256 operators
+-- ---- for the parsers, whose outcomes are `run` of the stream of all tokens, within the limits of the language
 
 -- an expression that is read from a place on, whose first token has this depth
 pub expression_answers : (all : List PlacedTerminal) (depth at : ℕ) (r : Result (Value expr × ℕ) Refusal)
-    → Says (run (stream all) 256 (length all) (run_to (stream all) 256 (length all) (64 - depth)) expression None at) r
+    → Says (run (stream all) language_limits.operators (length all) (run_to (stream all) language_limits.operators (length all) (language_limits.levels - depth)) expression None at) r
     → Answers (stream all) expr expression None at (limits_at depth) r
 unfolding reading
 expression_answers all depth at r h = form_answers all (limits_at depth) expr expression tested_expression None at r h
 
 -- a program
-pub program_parses : (all : List PlacedTerminal) (r : Result (Value program) Refusal) → Tells (run (stream all) 256 (length all) (run_to (stream all) 256 (length all) 64) whole None 0) r → Parses (stream all) language_limits r
+pub program_parses : (all : List PlacedTerminal) (r : Result (Value program) Refusal) → Tells (run (stream all) language_limits.operators (length all) (run_to (stream all) language_limits.operators (length all) language_limits.levels) whole None 0) r → Parses (stream all) language_limits r
 unfolding reading
 program_parses all r h = parses (stream all) language_limits r (reading all language_limits whole None 0) (form_outcome all language_limits program whole tested_whole None 0) h
 
 -- The parser was refused at place n, and read again with the terminal `barrier` there. Where it was refused there again, nothing
 -- could begin there; else a statement, or a call in a gate's body, could.
-module _ (all : List PlacedTerminal) (n : ℕ) (refused : run (stream all) 256 (length all) (run_to (stream all) 256 (length all) 64) whole None 0 ≡ Err (Syntax n)) where
+module _ (all : List PlacedTerminal) (n : ℕ) (refused : run (stream all) language_limits.operators (length all) (run_to (stream all) language_limits.operators (length all) language_limits.levels) whole None 0 ≡ Err (Syntax n)) where
   abbrev pub Again : Outcome (Value program)
-  Again = run (stream (with_terminal all n w.Barrier)) 256 (length (with_terminal all n w.Barrier)) (run_to (stream (with_terminal all n w.Barrier)) 256 (length (with_terminal all n w.Barrier)) 64) whole None 0
+  Again = run (stream (with_terminal all n w.Barrier)) language_limits.operators (length (with_terminal all n w.Barrier)) (run_to (stream (with_terminal all n w.Barrier)) language_limits.operators (length (with_terminal all n w.Barrier)) language_limits.levels) whole None 0
 
   pub barrier_begins : (r : Result (Value program) Refusal) → Tells Again r → r ≢ Err (Syntax n) → r ≢ Err OutOfMemory → CouldBegin all n
   unfolding reading

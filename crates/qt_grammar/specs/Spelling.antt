@@ -14,7 +14,7 @@ pub record Limits : Type 0 where
   pub levels : ℕ
   pub operators : ℕ
 
--- a token stands in at most 64 forms that count, and an expression has at most 256 operators
+-- no token of a program stands deeper than 64, and no expression that stands in no other has more than 256 operators
 abbrev pub language_limits : Limits
 language_limits = record { levels = 64; operators = 256 }
 
