@@ -22,17 +22,17 @@ Spans q (suc n) i j = (m : ℕ) × q i m × Spans q n m j
 abbrev pub Run : Span → Span
 Run q i j = (n : ℕ) × Spans q n i j
 
-nil : (q : Span) (i : ℕ) → Run q i i
+pub nil : (q : Span) (i : ℕ) → Run q i i
 nil q i = (0, refl)
 
-add : (q : Span) (i m j : ℕ) → q i m → Run q m j → Run q i j
+pub add : (q : Span) (i m j : ℕ) → q i m → Run q m j → Run q i j
 add q i m j h t = (suc t.0, (m, h, t.1))
 
-append : (q : Span) (n i m j : ℕ) → Spans q n i m → Run q m j → Run q i j
+pub append : (q : Span) (n i m j : ℕ) → Spans q n i m → Run q m j → Run q i j
 append q zero i m j e t = subst (λ k. Run q k j) e t
 append q (suc n) i m j (x, h, s) t = add q i x j h (append q n x m j s t)
 
-map_spans : (q q' : Span) → ((i j : ℕ) → q i j → q' i j) → (n i j : ℕ) → Spans q n i j → Spans q' n i j
+pub map_spans : (q q' : Span) → ((i j : ℕ) → q i j → q' i j) → (n i j : ℕ) → Spans q n i j → Spans q' n i j
 map_spans q q' f zero i j e = e
 map_spans q q' f (suc n) i j (m, h, s) = (m, f i m h, map_spans q q' f n m j s)
 
@@ -51,10 +51,10 @@ OpenItem s p o i j = s i j ⊎ ((m : ℕ) × p i m × o m j)
 abbrev pub OpenChain : Span → Span → Span → Span → Span
 OpenChain p s po so i j = po i j ⊎ ((m : ℕ) × Chain p s i m × OpenItem so s po m j)
 
-map_chain : (p p' s : Span) → ((i j : ℕ) → p i j → p' i j) → (i j : ℕ) → Chain p s i j → Chain p' s i j
+pub map_chain : (p p' s : Span) → ((i j : ℕ) → p i j → p' i j) → (i j : ℕ) → Chain p s i j → Chain p' s i j
 map_chain p p' s f i j (m, h, (n, t)) = (m, f i m h, (n, map_spans (Item s p) (Item s p') (λ i j z. (z.0, z.1, f z.0 j z.2)) n m j t))
 
-map_open_chain : (p p' s po po' so : Span) → ((i j : ℕ) → p i j → p' i j) → ((i j : ℕ) → po i j → po' i j) → (i j : ℕ) → OpenChain p s po so i j → OpenChain p' s po' so i j
+pub map_open_chain : (p p' s po po' so : Span) → ((i j : ℕ) → p i j → p' i j) → ((i j : ℕ) → po i j → po' i j) → (i j : ℕ) → OpenChain p s po so i j → OpenChain p' s po' so i j
 map_open_chain p p' s po po' so f g i j (inl h) = inl (g i j h)
 map_open_chain p p' s po po' so f g i j (inr (m, c, inl h)) = inr (m, map_chain p p' s f i m c, inl h)
 map_open_chain p p' s po po' so f g i j (inr (m, c, inr (x, h, o))) = inr (m, map_chain p p' s f i m c, inr (x, h, g x j o))
@@ -139,29 +139,29 @@ module _ (p po strong strong_open weak weak_open all all_open : Span)
 
 -- ---- the forms
 
-to_spans : {B C : Type 0} (step : C → B → C) (q : Reading B) (n : ℕ) (c : C) (i : ℕ) (v : C) (j : ℕ) → ReadsMore step q n c i v j → Spans (Some_of q) n i j
+pub to_spans : {B C : Type 0} (step : C → B → C) (q : Reading B) (n : ℕ) (c : C) (i : ℕ) (v : C) (j : ℕ) → ReadsMore step q n c i v j → Spans (Some_of q) n i j
 to_spans step q zero c i v j h = h.1
 to_spans step q (suc n) c i v j (y, m, h, t) = (m, (y, h), to_spans step q n (step c y) m v j t)
 
-of_spans : {B C : Type 0} (step : C → B → C) (q : Reading B) (n : ℕ) (c : C) (i j : ℕ) → Spans (Some_of q) n i j → (v : C) × ReadsMore step q n c i v j
+pub of_spans : {B C : Type 0} (step : C → B → C) (q : Reading B) (n : ℕ) (c : C) (i j : ℕ) → Spans (Some_of q) n i j → (v : C) × ReadsMore step q n c i v j
 of_spans step q zero c i j e = (c, (refl, e))
 of_spans step q (suc n) c i j (m, h, t) = let z = of_spans step q n (step c h.0) m j t in (z.0, (h.0, m, h.1, z.1))
 
 module _ (ts : ℕ → PlacedTerminal) (cap : ℕ) (reads : (n : Name) → Option ℕ → Reading (Value (sort n))) (opens : (n : Name) → Option ℕ → Opening) (outer : Option ℕ) where
-  abbrev R : Form expr → Span
+  abbrev pub R : Form expr → Span
   R f = Some_of (ReadsBy ts cap reads f outer)
 
-  abbrev O : Form expr → Span
+  abbrev pub O : Form expr → Span
   O f = OpensBy ts cap reads opens f outer
 
-  abbrev S : List ℕ → Span
+  abbrev pub S : List ℕ → Span
   S ws = Some_of (ReadsOperator ts cap ws outer)
 
-  abbrev SO : List ℕ → Span
+  abbrev pub SO : List ℕ → Span
   SO ws = OpensOperator ts cap ws outer
 
   -- an operator and an operand, with their trees
-  abbrev Pair : (ws : List ℕ) (f : Form expr) → Reading (PlacedTerminal × Value expr)
+  abbrev pub Pair : (ws : List ℕ) (f : Form expr) → Reading (PlacedTerminal × Value expr)
   Pair ws f = ReadsThen pair_of (ReadsOperator ts cap ws outer) (ReadsBy ts cap reads f outer)
 
   item_of : (ws : List ℕ) (f : Form expr) (i j : ℕ) → Some_of (Pair ws f) i j → Item (S ws) (R f) i j
@@ -170,21 +170,21 @@ module _ (ts : ℕ → PlacedTerminal) (cap : ℕ) (reads : (n : Name) → Optio
   of_item : (ws : List ℕ) (f : Form expr) (i j : ℕ) → Item (S ws) (R f) i j → Some_of (Pair ws f) i j
   of_item ws f i j (m, (x, h), (y, t)) = ((x, y), (x, y, m, h, t, refl))
 
-  chain_of : (ws : List ℕ) (f : Form expr) (i j : ℕ) → R (level ws f) i j → Chain (R f) (S ws) i j
+  pub chain_of : (ws : List ℕ) (f : Form expr) (i j : ℕ) → R (level ws f) i j → Chain (R f) (S ws) i j
   chain_of ws f i j (v, (x, m, n, h, t)) =
       (m, (x, h), (n, map_spans (Some_of (Pair ws f)) (Item (S ws) (R f)) (item_of ws f) n m j (to_spans (stepped joined) (Pair ws f) n x m v j t)))
 
-  of_chain : (ws : List ℕ) (f : Form expr) (i j : ℕ) → Chain (R f) (S ws) i j → R (level ws f) i j
+  pub of_chain : (ws : List ℕ) (f : Form expr) (i j : ℕ) → Chain (R f) (S ws) i j → R (level ws f) i j
   of_chain ws f i j (m, (x, h), (n, t)) =
       let z = of_spans (stepped joined) (Pair ws f) n x m j (map_spans (Item (S ws) (R f)) (Some_of (Pair ws f)) (of_item ws f) n m j t) in
       (z.0, (x, m, n, h, z.1))
 
-  open_chain_of : (ws : List ℕ) (f : Form expr) (i j : ℕ) → O (level ws f) i j → OpenChain (R f) (S ws) (O f) (SO ws) i j
+  pub open_chain_of : (ws : List ℕ) (f : Form expr) (i j : ℕ) → O (level ws f) i j → OpenChain (R f) (S ws) (O f) (SO ws) i j
   open_chain_of ws f i j (inl h) = inl h
   open_chain_of ws f i j (inr (v, m, c, inl o)) = inr (m, chain_of ws f i m (v, c), inl o)
   open_chain_of ws f i j (inr (v, m, c, inr (x, l, h, o))) = inr (m, chain_of ws f i m (v, c), inr (l, (x, h), o))
 
-  of_open_chain : (ws : List ℕ) (f : Form expr) (i j : ℕ) → OpenChain (R f) (S ws) (O f) (SO ws) i j → O (level ws f) i j
+  pub of_open_chain : (ws : List ℕ) (f : Form expr) (i j : ℕ) → OpenChain (R f) (S ws) (O f) (SO ws) i j → O (level ws f) i j
   of_open_chain ws f i j (inl h) = inl h
   of_open_chain ws f i j (inr (m, c, inl o)) = let z = of_chain ws f i m c in inr (z.0, m, z.1, inl o)
   of_open_chain ws f i j (inr (m, c, inr (l, (x, h), o))) = let z = of_chain ws f i m c in inr (z.0, m, z.1, inr (x, l, h, o))
@@ -201,24 +201,24 @@ module _ (ts : ℕ → PlacedTerminal) (cap : ℕ) (reads : (n : Name) → Optio
   in_all xs ys n a = elim (joined_in xs true ys n a) [ inl t ↦ inl t | inr t ↦ inr t.1 ]
 
   module _ (xs ys : List ℕ) where
-    right : (i j : ℕ) → S ys i j → S (xs ++ ys) i j
+    pub right : (i j : ℕ) → S ys i j → S (xs ++ ys) i j
     right i j (v, (a, b, e, l)) = (v, (in_right xs ys (terminal_at ts i) a, b, e, l))
 
-    left : (i j : ℕ) → S xs i j → S (xs ++ ys) i j
+    pub left : (i j : ℕ) → S xs i j → S (xs ++ ys) i j
     left i j (v, (a, b, e, l)) = (v, (in_left xs ys (terminal_at ts i) a, b, e, l))
 
-    apart : (i j : ℕ) → S (xs ++ ys) i j → S xs i j ⊎ S ys i j
+    pub apart : (i j : ℕ) → S (xs ++ ys) i j → S xs i j ⊎ S ys i j
     apart i j (v, (a, b, e, l)) = elim (in_all xs ys (terminal_at ts i) a) [ inl t ↦ inl (v, (t, b, e, l)) | inr t ↦ inr (v, (t, b, e, l)) ]
 
-    right_open : (i j : ℕ) → SO ys i j → SO (xs ++ ys) i j
+    pub right_open : (i j : ℕ) → SO ys i j → SO (xs ++ ys) i j
     right_open i j (inl e) = inl e
     right_open i j (inr (e, a, b)) = inr (e, in_right xs ys (terminal_at ts i) a, b)
 
-    left_open : (i j : ℕ) → SO xs i j → SO (xs ++ ys) i j
+    pub left_open : (i j : ℕ) → SO xs i j → SO (xs ++ ys) i j
     left_open i j (inl e) = inl e
     left_open i j (inr (e, a, b)) = inr (e, in_left xs ys (terminal_at ts i) a, b)
 
-    apart_open : (i j : ℕ) → SO (xs ++ ys) i j → SO xs i j ⊎ SO ys i j
+    pub apart_open : (i j : ℕ) → SO (xs ++ ys) i j → SO xs i j ⊎ SO ys i j
     apart_open i j (inl e) = inl (inl e)
     apart_open i j (inr (e, a, b)) = elim (in_all xs ys (terminal_at ts i) a) [ inl t ↦ inl (inr (e, t, b)) | inr t ↦ inr (inr (e, t, b)) ]
 

@@ -21,5 +21,7 @@ pub mod Constructs
 pub mod Bounds
 pub mod Shallow
 pub mod Levels
+pub mod OneDepth
 pub mod Flat
+pub mod Turns
 pub mod Counts

@@ -1,7 +1,7 @@
 -- How deep a token stands: in how many parentheses, square brackets, braces, bodies, operands of unary operators and right sides
 -- of `**`. Brackets are counted over the tokens alone. A body without braces, an operand and a right side of `**` have no bracket,
 -- and are counted where the tree has them. The limits play no part in it.
-use Rattle.std.specs.Prelude.{◌≡◌, ℕ, zero, suc, ◌+◌, ◌-◌, ◌≤◌, ◌⊎◌, Bool, true, false, if◌then◌else◌, List, [], ◌∷◌, Option}
+use Rattle.std.specs.Prelude.{◌≡◌, ℕ, zero, suc, ◌+◌, ◌-◌, ◌≤◌, ◌<◌, ◌⊎◌, Bool, true, false, if◌then◌else◌, List, [], ◌∷◌, Option}
 use Rattle.std.proofs.Common.{inl, inr}
 use Rattle.qt_terminals.specs.declared.terminal.Terminal.TheVariants as w
 use Rattle.qt_terminals.specs.Alphabet.{code}
@@ -75,6 +75,12 @@ is_single gate_block = false
 -- the token at one place stands so deep
 abbrev pub Standing : Type 1
 Standing = ℕ → ℕ → Type 0
+
+-- each token from one place up to another stands at one depth, and no other token stands at any
+pub record StandAtOneDepth (i j : ℕ) (stands : Standing) : Type 0 where
+  pub each : (k : ℕ) → i ≤ k → k < j → (depth : ℕ) × stands k depth
+  pub one_depth : (k depth other : ℕ) → stands k depth → stands k other → depth ≡ other
+  pub no_other : (k depth : ℕ) → stands k depth → (i ≤ k) × (k < j)
 
 -- in one of so many items
 abbrev pub StandsInMore : {B C : Type 0} (step : C → B → C) (q : Reading B) → ((i : ℕ) (y : B) (j : ℕ) → q i y j → Standing)

@@ -7,8 +7,8 @@ use Rattle.qt_grammar.specs.Sorts.{Sort, Value, expr, program}
 use Rattle.qt_grammar.specs.Outcome.{Outcome}
 use Rattle.qt_grammar.specs.Language.{expression, whole}
 use Rattle.qt_grammar.specs.Spelling.{Limits, Spells, Opens, OpensAtAll, SpellsProgram}
-use Rattle.qt_grammar.specs.Depth.{Spelling, SpelledAt, Beginning, OpenedAt, SpellsNoDeeper, OpensNoDeeper}
-use Rattle.qt_grammar.specs.Operators.{flat_expression}
+use Rattle.qt_grammar.specs.Depth.{StandAtOneDepth, Spelling, SpelledAt, Beginning, OpenedAt, SpellsNoDeeper, OpensNoDeeper}
+use Rattle.qt_grammar.specs.Operators.{flat_expression, parts_in_turn}
 use Rattle.qt_grammar.specs.Form.{Form}
 use Rattle.qt_grammar.specs.Promise.{Stopper, FirstTooDeep, Answers, Parses}
 
@@ -71,11 +71,11 @@ LevelsOfProgramAreDepth = (all : List PlacedTerminal) (l : Limits) → 1 ≤ l.l
     → ((p : Value program) → Spells (stream all) program whole None 0 l p j ↔ SpellsNoDeeper (stream all) program whole None 0 l p j)
     × (Opens (stream all) program whole None 0 l j ↔ OpensNoDeeper (stream all) program whole None 0 l j)
 
--- each token of a form that is spelled, or opened, stands in some number of constructs
+-- each token of a form that is spelled, or opened, stands at one depth, and no other token stands at any
 abbrev pub EachTokenStands : Type 0
-EachTokenStands = (all : List PlacedTerminal) (operators : ℕ) (s : Sort) (f : Form s) (outer : Option ℕ) (i j k : ℕ) → i ≤ k → k < j
-    → ((v : Value s) (h : Spelling (stream all) s f outer i operators v j) → (depth : ℕ) × SpelledAt (stream all) s f outer i operators v j h k depth)
-    × ((h : Beginning (stream all) s f outer i operators j) → (depth : ℕ) × OpenedAt (stream all) s f outer i operators j h k depth)
+EachTokenStands = (all : List PlacedTerminal) (operators : ℕ) (s : Sort) (f : Form s) (outer : Option ℕ) (i j : ℕ)
+    → ((v : Value s) (h : Spelling (stream all) s f outer i operators v j) → StandAtOneDepth i j (SpelledAt (stream all) s f outer i operators v j h))
+    × ((h : Beginning (stream all) s f outer i operators j) → StandAtOneDepth i j (OpenedAt (stream all) s f outer i operators j h))
 
 -- Strengths aside, tokens spell an expression exactly where they spell factors with binary operators between, and the same of what
 -- opens it, whatever the limits.
@@ -83,3 +83,12 @@ abbrev pub StrengthsOnlyGroup : Type 0
 StrengthsOnlyGroup = (all : List PlacedTerminal) (l : Limits) (outer : Option ℕ) (i j : ℕ)
     → (((v : Value expr) × Spells (stream all) expr expression outer i l v j) ↔ ((v : Value expr) × Spells (stream all) expr flat_expression outer i l v j))
     × (Opens (stream all) expr expression outer i l j ↔ Opens (stream all) expr flat_expression outer i l j)
+
+-- Whatever the levels, tokens spell an expression exactly where unary operators, primaries and binary operators in turn spell them;
+-- and the same of what opens it.
+abbrev pub PartsStandInTurn : Type 0
+PartsStandInTurn = (all : List PlacedTerminal) (operators : ℕ) (outer : Option ℕ) (i j : ℕ)
+    → (((levels : ℕ) × (v : Value expr) × Spells (stream all) expr expression outer i (record { levels = levels; operators = operators }) v j)
+    ↔ ((levels : ℕ) × (v : Value expr) × Spells (stream all) expr parts_in_turn outer i (record { levels = levels; operators = operators }) v j))
+    × (((levels : ℕ) × Opens (stream all) expr expression outer i (record { levels = levels; operators = operators }) j)
+    ↔ ((levels : ℕ) × Opens (stream all) expr parts_in_turn outer i (record { levels = levels; operators = operators }) j))

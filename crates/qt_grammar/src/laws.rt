@@ -45,14 +45,16 @@ pub fn parse_is_exact()
 
 /// The limit on levels is one on depth: what is spelled or opened within so many levels is what is spelled or opened whatever the
 /// levels, with no token in more parentheses, brackets, braces, bodies, operands of unary operators and right sides of `**`. Each
-/// token stands in some number of these.
+/// token stands at one depth.
 pub fn levels_are_depth()
     ensures expression { theorem.LevelsOfExpressionAreDepth }
     ensures program { theorem.LevelsOfProgramAreDepth }
     ensures each_token { theorem.EachTokenStands }
 {}
 
-/// The strengths of operators say how tokens group, and not whether they spell or open an expression.
+/// The strengths of operators say how tokens group, and not whether they spell or open an expression: within any limits these are
+/// factors with binary operators between, and whatever the levels unary operators, primaries and binary operators in turn.
 pub fn strengths_only_group()
-    ensures { theorem.StrengthsOnlyGroup }
+    ensures factors { theorem.StrengthsOnlyGroup }
+    ensures parts { theorem.PartsStandInTurn }
 {}
