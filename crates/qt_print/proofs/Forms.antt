@@ -1,6 +1,6 @@
 -- The lines of each form of a statement: the steps of the definition, read at the forms.
 use Rattle.std.proofs.Common.{◌≡◌, List, map, Option, Some, None, codes, ap, sym, ◌∙◌}
-use Rattle.qt_tree.specs.declared.expression.InfixOperator.{InfixOperator}
+use Rattle.qt_tree.specs.declared.expression.CompoundOperator.{CompoundOperator}
 use Rattle.qt_tree.specs.declared.expression.Expr.{Expr}
 use Rattle.qt_tree.specs.declared.expression.Scalar.{Scalar}
 use Rattle.qt_tree.specs.declared.label.Label.{Label}
@@ -38,7 +38,7 @@ alias_lines text parts = ap form_lines (sym (s.rolls-Alias text parts)) ∙ form
 pub assignment_lines : (target : Target) (value : Right) → form_lines (s.Assignment target value) ≡ sentence (assignment_lexemes target value)
 assignment_lines target value = ap form_lines (sym (s.rolls-Assignment target value)) ∙ form_rolls (o.Assignment target value)
 
-pub compound_lines : (target : Target) (op : InfixOperator) (value : Expr) → form_lines (s.CompoundAssignment target op value) ≡ sentence (compound_lexemes target op value)
+pub compound_lines : (target : Target) (op : CompoundOperator) (value : Expr) → form_lines (s.CompoundAssignment target op value) ≡ sentence (compound_lexemes target op value)
 compound_lines target op value = ap form_lines (sym (s.rolls-CompoundAssignment target op value)) ∙ form_rolls (o.CompoundAssignment target op value)
 
 pub measurement_lines : (qubits : Operand) (target : Option Target) → form_lines (s.Measure qubits target) ≡ sentence (measurement_lexemes qubits target)

@@ -5,7 +5,7 @@ use Rattle.qt_tree.specs.declared.program.ListItem.{ListItem, roll-ListItem}
 use Rattle.qt_tree.specs.declared.program.ListItem.TheVariants as l
 use Rattle.qt_tree.specs.declared.program.ListItem.TheOpen as o
 use Rattle.qt_tree.specs.declared.program.ListItem.TheFolds.{fold-roll-ListItem}
-use Rattle.qt_print.specs.Lexemes.{Lexeme}
+use Rattle.qt_lexemes.specs.Lexemes.{Lexeme}
 use Rattle.qt_print.specs.Expressions.{expr_lexemes}
 use Rattle.qt_print.specs.Programs.{list_step, item_lexemes, values_lexemes}
 

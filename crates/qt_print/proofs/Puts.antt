@@ -1,7 +1,8 @@
 -- Putting lexemes on a page.
 use Rattle.std.proofs.Common.{◌≡◌, ℕ, suc, ◌+◌, ◌-◌, ◌<◌, ◌⊎◌, inl, inr, Bool, true, false, List, [], ◌∷◌, ◌++◌, map, drop, get_or, add-one, drop-cons, length, refl, sym, ◌∙◌, ap, subst}
-use Rattle.qt_print.specs.Lexemes.{Lexeme, joined, each_behind, separated}
-use Rattle.qt_print.specs.Page.{Sheet, put_on, puts}
+use Rattle.qt_lexemes.specs.Lexemes.{Lexeme, joined, each_behind, separated}
+use Rattle.qt_lexemes.specs.Page.{Sheet, put_on}
+use Rattle.qt_print.specs.Page.{puts}
 
 pub puts_both : (sheet : Sheet) (xs ys : List Lexeme) → puts sheet (xs ++ ys) ≡ puts (puts sheet xs) ys
 puts_both sheet [] ys = refl

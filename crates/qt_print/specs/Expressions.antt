@@ -1,10 +1,6 @@
 -- The lexemes of expressions, types, indexes and ranges, in the order of the grammar. OpenQASM 3.0 live specification, "Types
 -- and Casting", "Index sets and slicing" and "Classical instructions".
-use Rattle.std.specs.Prelude.{ℕ, Bool, if◌then◌else◌, List, [], ◌∷◌, ◌++◌, map, Option, Some, None, codes}
-use Rattle.qt_tree.specs.declared.expression.InfixOperator.{InfixOperator}
-use Rattle.qt_tree.specs.declared.expression.InfixOperator.TheVariants as b
-use Rattle.qt_tree.specs.declared.expression.PrefixOperator.{PrefixOperator}
-use Rattle.qt_tree.specs.declared.expression.PrefixOperator.TheVariants as u
+use Rattle.std.specs.Prelude.{ℕ, List, [], ◌∷◌, ◌++◌, map, Option, Some, None, codes}
 use Rattle.qt_tree.specs.declared.expression.Expr.{Expr}
 use Rattle.qt_tree.specs.declared.expression.Scalar.{Scalar}
 use Rattle.qt_tree.specs.declared.expression.Index.{Index}
@@ -12,37 +8,9 @@ use Rattle.qt_tree.specs.declared.expression.Range.{Range}
 use Rattle.qt_tree.specs.declared.expression.Expr.TheOpen as e
 use Rattle.qt_tree.specs.declared.expression.Expr.TheOpen.{Expr-F, Index-F, Scalar-F, Range-F}
 use Rattle.qt_tree.specs.declared.expression.Expr.TheFolds.{fold-Expr, fold-Index, fold-Scalar, fold-Range}
-use Rattle.qt_print.specs.declared.role.Role.TheVariants as r
-use Rattle.qt_print.specs.Lexemes.{Lexeme, lexeme, name, keyword, integer, bits, operator, comma, colon, parenthesized, bracketed, braced, separated, joined, optional, itself}
-
-abbrev pub operator_text : InfixOperator → List ℕ
-operator_text b.LogicalOr = codes "||"
-operator_text b.LogicalAnd = codes "&&"
-operator_text b.Or = codes "|"
-operator_text b.Xor = codes "^"
-operator_text b.And = codes "&"
-operator_text b.Eq = codes "=="
-operator_text b.Ne = codes "!="
-operator_text b.Lt = codes "<"
-operator_text b.Le = codes "<="
-operator_text b.Gt = codes ">"
-operator_text b.Ge = codes ">="
-operator_text b.Shl = codes "<<"
-operator_text b.Shr = codes ">>"
-operator_text b.Add = codes "+"
-operator_text b.Sub = codes "-"
-operator_text b.Mul = codes "*"
-operator_text b.Div = codes "/"
-operator_text b.Rem = codes "%"
-operator_text b.Pow = codes "**"
-
-abbrev pub sign_text : PrefixOperator → List ℕ
-sign_text u.Not = codes "!"
-sign_text u.Turn = codes "~"
-sign_text u.Neg = codes "-"
-
-abbrev pub truth_text : Bool → List ℕ
-truth_text value = if value then codes "true" else codes "false"
+use Rattle.qt_lexemes.specs.declared.role.Role.TheVariants as r
+use Rattle.qt_lexemes.specs.Operators.{operator_text, sign_text, truth_text}
+use Rattle.qt_lexemes.specs.Lexemes.{Lexeme, lexeme, name, keyword, integer, bits, operator, comma, colon, parenthesized, bracketed, braced, separated, joined, optional, itself}
 
 -- the indexes of one pair of brackets
 abbrev pub indexed : List (List Lexeme) → List Lexeme

@@ -1,6 +1,3 @@
-pub mod Spacing
-pub mod Literals
-pub mod Lexemes
 pub mod Expressions
 pub mod Statements
 pub mod Programs

@@ -22,8 +22,8 @@ use Rattle.qt_tree.specs.declared.program.GateForm.TheVariants as g
 use Rattle.qt_tree.specs.declared.program.Definition.{Definition}
 use Rattle.qt_tree.specs.declared.program.Parameter.{Parameter}
 use Rattle.qt_tree.specs.declared.program.Parameter.TheVariants as parameter
-use Rattle.qt_print.specs.declared.role.Role.TheVariants as r
-use Rattle.qt_print.specs.Lexemes.{Lexeme, lexeme, name, keyword, integer, quotation, operator, comma, each_behind, parenthesized, bracketed, braced, separated, optional}
+use Rattle.qt_lexemes.specs.declared.role.Role.TheVariants as r
+use Rattle.qt_lexemes.specs.Lexemes.{Lexeme, lexeme, name, keyword, integer, quotation, operator, comma, each_behind, parenthesized, bracketed, braced, separated, optional}
 use Rattle.qt_print.specs.Expressions.{expr_lexemes, scalar_lexemes, size_lexemes}
 use Rattle.qt_print.specs.Statements.{Line, sentence, block, all_lines, call_lexemes, register_lexemes, statement_lines}
 
@@ -117,9 +117,5 @@ item_lines (i.Gate gate) = gate_lines gate
 item_lines (i.Definition definition) = definition_lines definition
 item_lines (i.Statement statement) = statement_lines statement
 
-abbrev pub first_lines : Option Version → List Line
-first_lines None = []
-first_lines (Some version) = version_lines version
-
 abbrev pub program_lines : Program → List Line
-program_lines program = first_lines program.version ++ all_lines (map item_lines program.items)
+program_lines program = all_lines (map version_lines program.versions) ++ all_lines (map item_lines program.items)

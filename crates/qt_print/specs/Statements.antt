@@ -2,7 +2,7 @@
 -- specification, "Types and Casting", "Gates", "Built-in quantum instructions" and "Classical instructions".
 use Rattle.std.specs.Prelude.{ℕ, ◌+◌, List, [], ◌∷◌, ◌++◌, map, Option, Some, None, codes}
 use Rattle.qt_tree.specs.declared.expression.Expr.{Expr}
-use Rattle.qt_tree.specs.declared.expression.InfixOperator.{InfixOperator}
+use Rattle.qt_tree.specs.declared.expression.CompoundOperator.{CompoundOperator}
 use Rattle.qt_tree.specs.declared.expression.Scalar.{Scalar}
 use Rattle.qt_tree.specs.declared.label.Label.{Label}
 use Rattle.qt_tree.specs.declared.statement.Operand.{Operand}
@@ -21,9 +21,10 @@ use Rattle.qt_tree.specs.declared.statement.StatementForm.{StatementForm}
 use Rattle.qt_tree.specs.declared.statement.StatementForm.TheOpen as s
 use Rattle.qt_tree.specs.declared.statement.StatementForm.TheOpen.{StatementForm-F, Statement-F}
 use Rattle.qt_tree.specs.declared.statement.StatementForm.TheFolds.{fold-StatementForm, fold-Statement}
-use Rattle.qt_print.specs.declared.role.Role.TheVariants as r
-use Rattle.qt_print.specs.Lexemes.{Lexeme, lexeme, name, keyword, operator, comma, semicolon, parenthesized, bracketed, braced, separated, joined, optional}
-use Rattle.qt_print.specs.Expressions.{operator_text, expr_lexemes, index_lexemes, scalar_lexemes, range_lexemes, list_lexemes, size_lexemes, brackets_lexemes}
+use Rattle.qt_lexemes.specs.declared.role.Role.TheVariants as r
+use Rattle.qt_lexemes.specs.Lexemes.{Lexeme, lexeme, name, keyword, operator, comma, semicolon, parenthesized, bracketed, braced, separated, joined, optional}
+use Rattle.qt_lexemes.specs.Operators.{compound_text}
+use Rattle.qt_print.specs.Expressions.{expr_lexemes, index_lexemes, scalar_lexemes, range_lexemes, list_lexemes, size_lexemes, brackets_lexemes}
 
 -- a line: in how many bodies of what is printed it stands, and its lexemes
 pub record Line : Type 0 where
@@ -128,8 +129,8 @@ alias_lexemes text parts = keyword (codes "let") ∷ name text ∷ operator (cod
 abbrev pub assignment_lexemes : Target → Right → List Lexeme
 assignment_lexemes target value = target_lexemes target ++ assigned value
 
-abbrev pub compound_lexemes : Target → InfixOperator → Expr → List Lexeme
-compound_lexemes target op value = target_lexemes target ++ operator (operator_text op ++ codes "=") ∷ expr_lexemes value
+abbrev pub compound_lexemes : Target → CompoundOperator → Expr → List Lexeme
+compound_lexemes target op value = target_lexemes target ++ operator (compound_text op) ∷ expr_lexemes value
 
 abbrev pub measurement_lexemes : Operand → Option Target → List Lexeme
 measurement_lexemes qubits target = keyword (codes "measure") ∷ (operand_lexemes qubits ++ optional stored target)

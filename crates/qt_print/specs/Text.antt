@@ -1,11 +1,11 @@
 -- The canonical text of a program, byte by byte: its lines, each with two spaces for each body that it stands in, and with
 -- one space between two lexemes where the spacing says so. OpenQASM 3.0 live specification, "Comments": white space between
 -- tokens has no meaning.
-use Rattle.std.specs.Prelude.{ℕ, zero, suc, ◌+◌, if◌then◌else◌, List, [], ◌∷◌, ◌++◌, Option, Some, None}
+use Rattle.std.specs.Prelude.{ℕ, zero, suc, ◌+◌, List, [], ◌∷◌, ◌++◌, Option, Some, None}
 use Rattle.qt_tree.specs.declared.program.Program.{Program}
-use Rattle.qt_print.specs.declared.role.Role.{Role}
-use Rattle.qt_print.specs.Spacing.{has_space}
-use Rattle.qt_print.specs.Lexemes.{Lexeme}
+use Rattle.qt_lexemes.specs.declared.role.Role.{Role}
+use Rattle.qt_lexemes.specs.Spacing.{gap}
+use Rattle.qt_lexemes.specs.Lexemes.{Lexeme}
 use Rattle.qt_print.specs.Statements.{Line}
 use Rattle.qt_print.specs.Programs.{program_lines}
 
@@ -13,11 +13,6 @@ use Rattle.qt_print.specs.Programs.{program_lines}
 abbrev pub margin : ℕ → List ℕ
 margin zero = []
 margin (suc depth) = 32 ∷ 32 ∷ margin depth
-
--- what stands before a lexeme: nothing at the beginning of a line
-abbrev pub gap : Option Role → Role → List ℕ
-gap None following = []
-gap (Some last) following = if has_space last following then 32 ∷ [] else []
 
 -- lexemes behind this one on a line
 abbrev pub spread : Option Role → List Lexeme → List ℕ

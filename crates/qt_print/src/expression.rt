@@ -1,65 +1,22 @@
 //! Expressions, types, indexes and ranges.
 
 ghost use Rattle.std.specs.Prelude.{◌≡◌, map, OnOk};
-ghost use Rattle.qt_print.specs.Lexemes as lexemes;
+ghost use Rattle.qt_lexemes.specs.Lexemes as lexemes;
 ghost use Rattle.qt_print.specs.Expressions as spec;
-ghost use Rattle.qt_print.specs.Page.{sheet_of, puts};
+ghost use Rattle.qt_lexemes.specs.Page.{sheet_of};
+ghost use Rattle.qt_print.specs.Page.{puts};
 
-use crate::page::Page;
-use crate::role::Role;
-use qt_tree::expression::{Expr, Index, InfixOperator, PrefixOperator, Range, Scalar};
+use qt_lexemes::operator::{operator_text, sign_text, truth_text};
+use qt_lexemes::page::Page;
+use qt_lexemes::role::Role;
+use qt_outside::faults::OutOfMemory;
+use qt_tree::expression::{Expr, Index, Range, Scalar};
 use sqlite_items::{Boxed, Items};
-use std::alloc::AllocError;
-
-/// How a binary operator is written.
-pub(crate) fn operator_text(operator: InfixOperator) -> &'static str
-    ensures { result.now ≡ spec.operator_text operator }
-{
-    match operator {
-        InfixOperator::LogicalOr => "||",
-        InfixOperator::LogicalAnd => "&&",
-        InfixOperator::Or => "|",
-        InfixOperator::Xor => "^",
-        InfixOperator::And => "&",
-        InfixOperator::Eq => "==",
-        InfixOperator::Ne => "!=",
-        InfixOperator::Lt => "<",
-        InfixOperator::Le => "<=",
-        InfixOperator::Gt => ">",
-        InfixOperator::Ge => ">=",
-        InfixOperator::Shl => "<<",
-        InfixOperator::Shr => ">>",
-        InfixOperator::Add => "+",
-        InfixOperator::Sub => "-",
-        InfixOperator::Mul => "*",
-        InfixOperator::Div => "/",
-        InfixOperator::Rem => "%",
-        InfixOperator::Pow => "**",
-    }
-}
-
-/// How a unary operator is written.
-fn sign_text(operator: PrefixOperator) -> &'static str
-    ensures { result.now ≡ spec.sign_text operator }
-{
-    match operator {
-        PrefixOperator::Not => "!",
-        PrefixOperator::Turn => "~",
-        PrefixOperator::Neg => "-",
-    }
-}
-
-/// How a truth value is written.
-fn truth_text(value: bool) -> &'static str
-    ensures { result.now ≡ spec.truth_text value }
-{
-    if value { "true" } else { "false" }
-}
 
 /// An expression.
 #[tactic(auto, using(crate::proofs::Equations::expressions))]
 #[cycle(expression)]
-pub(crate) fn put_expr(page: &mut Page, expr: &Expr) -> Result<(), AllocError>
+pub(crate) fn put_expr(page: &mut Page, expr: &Expr) -> Result<(), OutOfMemory>
     ensures { OnOk result (sheet_of page.new ≡ puts (sheet_of page.old) (spec.expr_lexemes expr.now)) }
 {
     match expr {
@@ -107,7 +64,7 @@ pub(crate) fn put_expr(page: &mut Page, expr: &Expr) -> Result<(), AllocError>
 /// An expression in parentheses.
 #[tactic(auto, using(crate::proofs::Puts::puts_both))]
 #[cycle(expression)]
-pub(crate) fn put_parenthesized(page: &mut Page, inner: &Expr) -> Result<(), AllocError>
+pub(crate) fn put_parenthesized(page: &mut Page, inner: &Expr) -> Result<(), OutOfMemory>
     ensures { OnOk result (sheet_of page.new ≡ puts (sheet_of page.old) (lexemes.parenthesized (spec.expr_lexemes inner.now))) }
 {
     page.put(Role::Opening, "(")?;
@@ -118,7 +75,7 @@ pub(crate) fn put_parenthesized(page: &mut Page, inner: &Expr) -> Result<(), All
 /// Expressions with commas between, in parentheses.
 #[tactic(auto, using(crate::proofs::Puts::puts_both))]
 #[cycle(expression)]
-pub(crate) fn put_arguments(page: &mut Page, arguments: &[Expr]) -> Result<(), AllocError>
+pub(crate) fn put_arguments(page: &mut Page, arguments: &[Expr]) -> Result<(), OutOfMemory>
     ensures { OnOk result (sheet_of page.new ≡ puts (sheet_of page.old) (lexemes.parenthesized (spec.list_lexemes arguments.now))) }
 {
     page.put(Role::Opening, "(")?;
@@ -128,7 +85,7 @@ pub(crate) fn put_arguments(page: &mut Page, arguments: &[Expr]) -> Result<(), A
 
 /// Expressions with commas between.
 #[cycle(expression)]
-pub(crate) fn put_list(page: &mut Page, all: &[Expr]) -> Result<(), AllocError>
+pub(crate) fn put_list(page: &mut Page, all: &[Expr]) -> Result<(), OutOfMemory>
     ensures { OnOk result (sheet_of page.new ≡ puts (sheet_of page.old) (spec.list_lexemes all.now)) }
 {
     let mut first = true;
@@ -144,7 +101,7 @@ pub(crate) fn put_list(page: &mut Page, all: &[Expr]) -> Result<(), AllocError>
 
 /// The second part of `sizeof`.
 #[cycle(expression)]
-fn put_dimension(page: &mut Page, dimension: &Option<Boxed<Expr>>) -> Result<(), AllocError>
+fn put_dimension(page: &mut Page, dimension: &Option<Boxed<Expr>>) -> Result<(), OutOfMemory>
     ensures { OnOk result (sheet_of page.new ≡ puts (sheet_of page.old) (spec.second_lexemes dimension.now)) }
 {
     match dimension {
@@ -158,7 +115,7 @@ fn put_dimension(page: &mut Page, dimension: &Option<Boxed<Expr>>) -> Result<(),
 
 /// The indexes of each pair of brackets.
 #[cycle(expression)]
-pub(crate) fn put_brackets(page: &mut Page, brackets: &[Items<Index>]) -> Result<(), AllocError>
+pub(crate) fn put_brackets(page: &mut Page, brackets: &[Items<Index>]) -> Result<(), OutOfMemory>
     ensures { OnOk result (sheet_of page.new ≡ puts (sheet_of page.old) (spec.brackets_lexemes brackets.now)) }
 {
     for indexes in brackets {
@@ -170,7 +127,7 @@ pub(crate) fn put_brackets(page: &mut Page, brackets: &[Items<Index>]) -> Result
 /// Indexes with commas between, in brackets.
 #[tactic(auto, using(crate::proofs::Puts::puts_both))]
 #[cycle(expression)]
-fn put_bracket(page: &mut Page, indexes: &[Index]) -> Result<(), AllocError>
+fn put_bracket(page: &mut Page, indexes: &[Index]) -> Result<(), OutOfMemory>
     ensures { OnOk result (sheet_of page.new ≡ puts (sheet_of page.old) (spec.bracket_lexemes indexes.now)) }
 {
     page.put(Role::Opening, "[")?;
@@ -180,7 +137,7 @@ fn put_bracket(page: &mut Page, indexes: &[Index]) -> Result<(), AllocError>
 
 /// Indexes with commas between.
 #[cycle(expression)]
-fn put_indexes(page: &mut Page, indexes: &[Index]) -> Result<(), AllocError>
+fn put_indexes(page: &mut Page, indexes: &[Index]) -> Result<(), OutOfMemory>
     ensures { OnOk result (sheet_of page.new ≡ puts (sheet_of page.old) (lexemes.separated lexemes.comma (map spec.index_lexemes indexes.now))) }
 {
     let mut first = true;
@@ -197,7 +154,7 @@ fn put_indexes(page: &mut Page, indexes: &[Index]) -> Result<(), AllocError>
 /// One index.
 #[tactic(auto, using(crate::proofs::Equations::indexes))]
 #[cycle(expression)]
-pub(crate) fn put_index(page: &mut Page, index: &Index) -> Result<(), AllocError>
+pub(crate) fn put_index(page: &mut Page, index: &Index) -> Result<(), OutOfMemory>
     ensures { OnOk result (sheet_of page.new ≡ puts (sheet_of page.old) (spec.index_lexemes index.now)) }
 {
     match index {
@@ -210,7 +167,7 @@ pub(crate) fn put_index(page: &mut Page, index: &Index) -> Result<(), AllocError
 /// Expressions with commas between, in braces.
 #[tactic(auto, using(crate::proofs::Puts::puts_both))]
 #[cycle(expression)]
-pub(crate) fn put_set(page: &mut Page, members: &[Expr]) -> Result<(), AllocError>
+pub(crate) fn put_set(page: &mut Page, members: &[Expr]) -> Result<(), OutOfMemory>
     ensures { OnOk result (sheet_of page.new ≡ puts (sheet_of page.old) (lexemes.braced (spec.list_lexemes members.now))) }
 {
     page.put(Role::Opening, "{")?;
@@ -221,7 +178,7 @@ pub(crate) fn put_set(page: &mut Page, members: &[Expr]) -> Result<(), AllocErro
 /// A range.
 #[tactic(auto, using(crate::proofs::Equations::ranges))]
 #[cycle(expression)]
-pub(crate) fn put_range(page: &mut Page, range: &Range) -> Result<(), AllocError>
+pub(crate) fn put_range(page: &mut Page, range: &Range) -> Result<(), OutOfMemory>
     ensures { OnOk result (sheet_of page.new ≡ puts (sheet_of page.old) (spec.range_lexemes range.now)) }
 {
     put_part(page, &range.start)?;
@@ -232,7 +189,7 @@ pub(crate) fn put_range(page: &mut Page, range: &Range) -> Result<(), AllocError
 
 /// The start or the end of a range, where it stands.
 #[cycle(expression)]
-fn put_part(page: &mut Page, part: &Option<Expr>) -> Result<(), AllocError>
+fn put_part(page: &mut Page, part: &Option<Expr>) -> Result<(), OutOfMemory>
     ensures { OnOk result (sheet_of page.new ≡ puts (sheet_of page.old) (spec.end_lexemes part.now)) }
 {
     match part {
@@ -244,7 +201,7 @@ fn put_part(page: &mut Page, part: &Option<Expr>) -> Result<(), AllocError>
 /// The step of a range and its colon, where it stands.
 #[tactic(auto, using(crate::proofs::Puts::puts_both))]
 #[cycle(expression)]
-fn put_step(page: &mut Page, step: &Option<Expr>) -> Result<(), AllocError>
+fn put_step(page: &mut Page, step: &Option<Expr>) -> Result<(), OutOfMemory>
     ensures { OnOk result (sheet_of page.new ≡ puts (sheet_of page.old) (spec.step_lexemes step.now)) }
 {
     match step {
@@ -259,7 +216,7 @@ fn put_step(page: &mut Page, step: &Option<Expr>) -> Result<(), AllocError>
 /// A type.
 #[tactic(auto, using(crate::proofs::Equations::scalars))]
 #[cycle(expression)]
-pub(crate) fn put_scalar(page: &mut Page, scalar: &Scalar) -> Result<(), AllocError>
+pub(crate) fn put_scalar(page: &mut Page, scalar: &Scalar) -> Result<(), OutOfMemory>
     ensures { OnOk result (sheet_of page.new ≡ puts (sheet_of page.old) (spec.scalar_lexemes scalar.now)) }
 {
     match scalar {
@@ -274,7 +231,7 @@ pub(crate) fn put_scalar(page: &mut Page, scalar: &Scalar) -> Result<(), AllocEr
 /// A type's keyword, and its size in brackets where it stands.
 #[tactic(auto, using(crate::proofs::Puts::puts_both))]
 #[cycle(expression)]
-fn put_sized(page: &mut Page, keyword: &str, size: &Option<Boxed<Expr>>) -> Result<(), AllocError>
+fn put_sized(page: &mut Page, keyword: &str, size: &Option<Boxed<Expr>>) -> Result<(), OutOfMemory>
     ensures { OnOk result (sheet_of page.new ≡ puts (sheet_of page.old) (spec.type_lexemes keyword.now size.now)) }
 {
     page.put(Role::Keyword, keyword)?;

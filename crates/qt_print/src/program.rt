@@ -1,21 +1,22 @@
-//! Programs: the version and the items, one after another.
+//! Programs: the versions and the items, one after another.
 
-ghost use Rattle.std.specs.Prelude.{◌≡◌, map, IfOk, OnOk};
+ghost use Rattle.std.specs.Prelude.{◌≡◌, [], codes, map, IfOk, OnOk};
 ghost use Rattle.std.specs.String.{string_bytes};
-ghost use Rattle.qt_print.specs.Lexemes as lexemes;
+ghost use Rattle.qt_lexemes.specs.Lexemes as lexemes;
 ghost use Rattle.qt_print.specs.Expressions as expressions;
 ghost use Rattle.qt_print.specs.Statements as statements;
 ghost use Rattle.qt_print.specs.Programs as spec;
 ghost use Rattle.qt_print.specs.Text.{canonical};
-ghost use Rattle.qt_print.specs.Page as pages;
-ghost use Rattle.qt_print.specs.Page.{sheet_of, puts, put_sentence, put_lines};
+ghost use Rattle.qt_lexemes.specs.Page as sheets;
+ghost use Rattle.qt_lexemes.specs.Page.{sheet_of};
+ghost use Rattle.qt_print.specs.Page.{puts, put_sentence, put_lines};
 
 use crate::expression::{put_expr, put_scalar};
-use crate::page::Page;
-use crate::role::Role;
 use crate::statement::{
     close_body, finish, open_body, put_body, put_gate_call, put_register, put_size, put_statement,
 };
+use qt_lexemes::page::Page;
+use qt_lexemes::role::Role;
 use qt_outside::faults::OutOfMemory;
 use qt_tree::expression::{Expr, Scalar};
 use qt_tree::label::Label;
@@ -24,38 +25,43 @@ use qt_tree::program::{
     Version, VersionNumber,
 };
 use sqlite_items::Items;
-use std::alloc::{AllocError, Global};
+use std::alloc::Global;
 
-/// The canonical text of a program. A program without version and items has the empty text.
+/// The canonical text of a program. A program without versions and items has the empty text.
 #[tactic(auto, using(crate::proofs::Texts::printed))]
 pub fn print(alloc: Global, program: &Program) -> Result<String, OutOfMemory>
     ensures { IfOk result (λ text. string_bytes text ≡ canonical program.now) }
 {
     let mut page = Page::new(alloc);
-    put_version(&mut page, &program.version)?;
+    put_versions(&mut page, program.versions.as_slice())?;
     put_items(&mut page, program.items.as_slice())?;
     Ok(page.into_text())
 }
 
-/// The version, where it stands.
-#[tactic(auto, using(crate::proofs::Lines::sentence_put, crate::proofs::Puts::puts_both))]
-fn put_version(page: &mut Page, version: &Option<Version>) -> Result<(), AllocError>
-    ensures { OnOk result (sheet_of page.new ≡ put_lines (sheet_of page.old) 0 (spec.first_lines version.now)) }
+/// The versions of a program. A text has one at most.
+fn put_versions(page: &mut Page, versions: &[Version]) -> Result<(), OutOfMemory>
+    ensures { OnOk result (sheet_of page.new ≡ put_lines (sheet_of page.old) [] (statements.all_lines (map spec.version_lines versions.now))) }
 {
-    match version {
-        None => Ok(()),
-        Some(version) => {
-            page.begin(0)?;
-            page.put(Role::Keyword, "OPENQASM")?;
-            put_version_number(page, &version.number)?;
-            finish(page)
-        }
+    for version in versions {
+        put_version(page, version)?;
     }
+    Ok(())
+}
+
+/// A version.
+#[tactic(auto, using(crate::proofs::Lines::sentence_put, crate::proofs::Puts::puts_both))]
+fn put_version(page: &mut Page, version: &Version) -> Result<(), OutOfMemory>
+    ensures { OnOk result (sheet_of page.new ≡ put_lines (sheet_of page.old) [] (spec.version_lines version.now)) }
+{
+    page.begin("")?;
+    page.put(Role::Keyword, "OPENQASM")?;
+    put_version_number(page, &version.number)?;
+    finish(page)
 }
 
 /// What a version names.
-fn put_version_number(page: &mut Page, number: &VersionNumber) -> Result<(), AllocError>
-    ensures { OnOk result (sheet_of page.new ≡ pages.put_on (sheet_of page.old) (spec.number_lexeme number.now)) }
+fn put_version_number(page: &mut Page, number: &VersionNumber) -> Result<(), OutOfMemory>
+    ensures { OnOk result (sheet_of page.new ≡ sheets.put_on (sheet_of page.old) (spec.number_lexeme number.now)) }
 {
     match number {
         VersionNumber::Integer { value } => page.put_number(*value),
@@ -64,8 +70,8 @@ fn put_version_number(page: &mut Page, number: &VersionNumber) -> Result<(), All
 }
 
 /// The items of a program.
-fn put_items(page: &mut Page, items: &[Item]) -> Result<(), AllocError>
-    ensures { OnOk result (sheet_of page.new ≡ put_lines (sheet_of page.old) 0 (statements.all_lines (map spec.item_lines items.now))) }
+fn put_items(page: &mut Page, items: &[Item]) -> Result<(), OutOfMemory>
+    ensures { OnOk result (sheet_of page.new ≡ put_lines (sheet_of page.old) [] (statements.all_lines (map spec.item_lines items.now))) }
 {
     for item in items {
         put_item(page, item)?;
@@ -75,8 +81,8 @@ fn put_items(page: &mut Page, items: &[Item]) -> Result<(), AllocError>
 
 /// One item.
 #[tactic(auto, using(crate::proofs::Lines::sentence_put, crate::proofs::Lines::block_put, crate::proofs::Puts::puts_both))]
-fn put_item(page: &mut Page, item: &Item) -> Result<(), AllocError>
-    ensures { OnOk result (sheet_of page.new ≡ put_lines (sheet_of page.old) 0 (spec.item_lines item.now)) }
+fn put_item(page: &mut Page, item: &Item) -> Result<(), OutOfMemory>
+    ensures { OnOk result (sheet_of page.new ≡ put_lines (sheet_of page.old) [] (spec.item_lines item.now)) }
 {
     match item {
         Item::Include { name, .. } => put_include(page, name),
@@ -87,16 +93,16 @@ fn put_item(page: &mut Page, item: &Item) -> Result<(), AllocError>
         Item::Array { array } => put_array(page, array),
         Item::Gate { gate } => put_gate_item(page, gate),
         Item::Definition { definition } => put_definition(page, definition),
-        Item::Statement { statement } => put_statement(page, 0, statement),
+        Item::Statement { statement } => put_statement(page, "", statement),
     }
 }
 
 /// An include.
 #[tactic(auto, using(crate::proofs::Lines::sentence_put, crate::proofs::Puts::puts_both))]
-fn put_include(page: &mut Page, name: &Label) -> Result<(), AllocError>
-    ensures { OnOk result (sheet_of page.new ≡ put_lines (sheet_of page.old) 0 (spec.include_lines name.now)) }
+fn put_include(page: &mut Page, name: &Label) -> Result<(), OutOfMemory>
+    ensures { OnOk result (sheet_of page.new ≡ put_lines (sheet_of page.old) [] (spec.include_lines name.now)) }
 {
-    page.begin(0)?;
+    page.begin("")?;
     page.put(Role::Keyword, "include")?;
     page.put_quoted(name.text())?;
     finish(page)
@@ -104,10 +110,10 @@ fn put_include(page: &mut Page, name: &Label) -> Result<(), AllocError>
 
 /// An input or an output.
 #[tactic(auto, using(crate::proofs::Lines::sentence_put, crate::proofs::Puts::puts_both))]
-fn put_typed(page: &mut Page, head: &str, scalar: &Scalar, name: &Label) -> Result<(), AllocError>
-    ensures { OnOk result (sheet_of page.new ≡ put_lines (sheet_of page.old) 0 (spec.typed head.now scalar.now name.now)) }
+fn put_typed(page: &mut Page, head: &str, scalar: &Scalar, name: &Label) -> Result<(), OutOfMemory>
+    ensures { OnOk result (sheet_of page.new ≡ put_lines (sheet_of page.old) [] (spec.typed head.now scalar.now name.now)) }
 {
-    page.begin(0)?;
+    page.begin("")?;
     page.put(Role::Keyword, head)?;
     put_scalar(page, scalar)?;
     page.put(Role::Name, name.text())?;
@@ -116,7 +122,7 @@ fn put_typed(page: &mut Page, head: &str, scalar: &Scalar, name: &Label) -> Resu
 
 /// A qubit or a register of qubits, as it is declared or as a parameter.
 #[tactic(auto, using(crate::proofs::Puts::puts_both))]
-fn put_qubit(page: &mut Page, size: &Option<Expr>, name: &Label) -> Result<(), AllocError>
+fn put_qubit(page: &mut Page, size: &Option<Expr>, name: &Label) -> Result<(), OutOfMemory>
     ensures { OnOk result (sheet_of page.new ≡ puts (sheet_of page.old) (spec.qubit_lexemes size.now name.now)) }
 {
     page.put(Role::Keyword, "qubit")?;
@@ -126,29 +132,29 @@ fn put_qubit(page: &mut Page, size: &Option<Expr>, name: &Label) -> Result<(), A
 
 /// The declaration of a qubit or a register of qubits.
 #[tactic(auto, using(crate::proofs::Lines::sentence_put, crate::proofs::Puts::puts_both))]
-fn put_qubit_item(page: &mut Page, size: &Option<Expr>, name: &Label) -> Result<(), AllocError>
-    ensures { OnOk result (sheet_of page.new ≡ put_lines (sheet_of page.old) 0 (statements.sentence (spec.qubit_lexemes size.now name.now))) }
+fn put_qubit_item(page: &mut Page, size: &Option<Expr>, name: &Label) -> Result<(), OutOfMemory>
+    ensures { OnOk result (sheet_of page.new ≡ put_lines (sheet_of page.old) [] (statements.sentence (spec.qubit_lexemes size.now name.now))) }
 {
-    page.begin(0)?;
+    page.begin("")?;
     put_qubit(page, size, name)?;
     finish(page)
 }
 
 /// The declaration of a register of qubits by its old keyword.
 #[tactic(auto, using(crate::proofs::Lines::sentence_put, crate::proofs::Puts::puts_both))]
-fn put_qubit_register(page: &mut Page, name: &Label, size: &Option<Expr>) -> Result<(), AllocError>
-    ensures { OnOk result (sheet_of page.new ≡ put_lines (sheet_of page.old) 0 (spec.qubit_register_lines name.now size.now)) }
+fn put_qubit_register(page: &mut Page, name: &Label, size: &Option<Expr>) -> Result<(), OutOfMemory>
+    ensures { OnOk result (sheet_of page.new ≡ put_lines (sheet_of page.old) [] (spec.qubit_register_lines name.now size.now)) }
 {
-    page.begin(0)?;
+    page.begin("")?;
     put_register(page, "qreg", name, size)
 }
 
 /// An array.
 #[tactic(auto, using(crate::proofs::Lines::sentence_put, crate::proofs::Puts::puts_both))]
-fn put_array(page: &mut Page, array: &ArrayItem) -> Result<(), AllocError>
-    ensures { OnOk result (sheet_of page.new ≡ put_lines (sheet_of page.old) 0 (statements.sentence (spec.array_lexemes array.now))) }
+fn put_array(page: &mut Page, array: &ArrayItem) -> Result<(), OutOfMemory>
+    ensures { OnOk result (sheet_of page.new ≡ put_lines (sheet_of page.old) [] (statements.sentence (spec.array_lexemes array.now))) }
 {
-    page.begin(0)?;
+    page.begin("")?;
     page.put(Role::Keyword, "array")?;
     page.put(Role::Opening, "[")?;
     put_scalar(page, &array.scalar)?;
@@ -160,7 +166,7 @@ fn put_array(page: &mut Page, array: &ArrayItem) -> Result<(), AllocError>
 }
 
 /// The dimensions of an array, each behind a comma.
-fn put_dimensions(page: &mut Page, dimensions: &[Expr]) -> Result<(), AllocError>
+fn put_dimensions(page: &mut Page, dimensions: &[Expr]) -> Result<(), OutOfMemory>
     ensures { OnOk result (sheet_of page.new ≡ puts (sheet_of page.old) (lexemes.each_behind lexemes.comma (map expressions.expr_lexemes dimensions.now))) }
 {
     for dimension in dimensions {
@@ -172,7 +178,7 @@ fn put_dimensions(page: &mut Page, dimensions: &[Expr]) -> Result<(), AllocError
 
 /// The first values of an array, where they stand.
 #[tactic(auto, using(crate::proofs::Puts::puts_both))]
-fn put_values(page: &mut Page, values: &Option<Items<ListItem>>) -> Result<(), AllocError>
+fn put_values(page: &mut Page, values: &Option<Items<ListItem>>) -> Result<(), OutOfMemory>
     ensures { OnOk result (sheet_of page.new ≡ puts (sheet_of page.old) (lexemes.optional spec.valued values.now)) }
 {
     match values {
@@ -187,7 +193,7 @@ fn put_values(page: &mut Page, values: &Option<Items<ListItem>>) -> Result<(), A
 /// A list of values, in braces.
 #[tactic(auto, using(crate::proofs::Puts::puts_both))]
 #[cycle(list)]
-fn put_values_list(page: &mut Page, items: &[ListItem]) -> Result<(), AllocError>
+fn put_values_list(page: &mut Page, items: &[ListItem]) -> Result<(), OutOfMemory>
     ensures { OnOk result (sheet_of page.new ≡ puts (sheet_of page.old) (spec.values_lexemes items.now)) }
 {
     page.put(Role::Opening, "{")?;
@@ -197,7 +203,7 @@ fn put_values_list(page: &mut Page, items: &[ListItem]) -> Result<(), AllocError
 
 /// Values with commas between.
 #[cycle(list)]
-fn put_list_items(page: &mut Page, items: &[ListItem]) -> Result<(), AllocError>
+fn put_list_items(page: &mut Page, items: &[ListItem]) -> Result<(), OutOfMemory>
     ensures { OnOk result (sheet_of page.new ≡ puts (sheet_of page.old) (lexemes.separated lexemes.comma (map spec.item_lexemes items.now))) }
 {
     let mut first = true;
@@ -214,7 +220,7 @@ fn put_list_items(page: &mut Page, items: &[ListItem]) -> Result<(), AllocError>
 /// One value of an array, or a list of them.
 #[tactic(auto, using(crate::proofs::Items::list_items))]
 #[cycle(list)]
-fn put_list_item(page: &mut Page, item: &ListItem) -> Result<(), AllocError>
+fn put_list_item(page: &mut Page, item: &ListItem) -> Result<(), OutOfMemory>
     ensures { OnOk result (sheet_of page.new ≡ puts (sheet_of page.old) (spec.item_lexemes item.now)) }
 {
     match item {
@@ -224,7 +230,7 @@ fn put_list_item(page: &mut Page, item: &ListItem) -> Result<(), AllocError>
 }
 
 /// Names with commas between.
-fn put_names(page: &mut Page, names: &[Label]) -> Result<(), AllocError>
+fn put_names(page: &mut Page, names: &[Label]) -> Result<(), OutOfMemory>
     ensures { OnOk result (sheet_of page.new ≡ puts (sheet_of page.old) (spec.names_lexemes names.now)) }
 {
     let mut first = true;
@@ -239,7 +245,7 @@ fn put_names(page: &mut Page, names: &[Label]) -> Result<(), AllocError>
 }
 
 /// A name.
-fn put_name(page: &mut Page, name: &Label) -> Result<(), AllocError>
+fn put_name(page: &mut Page, name: &Label) -> Result<(), OutOfMemory>
     ensures { OnOk result (sheet_of page.new ≡ puts (sheet_of page.old) (spec.name_lexemes name.now)) }
 {
     page.put(Role::Name, name.text())
@@ -247,20 +253,20 @@ fn put_name(page: &mut Page, name: &Label) -> Result<(), AllocError>
 
 /// A gate.
 #[tactic(auto, using(crate::proofs::Lines::block_put, crate::proofs::Puts::puts_both))]
-fn put_gate_item(page: &mut Page, gate: &GateItem) -> Result<(), AllocError>
-    ensures { OnOk result (sheet_of page.new ≡ put_lines (sheet_of page.old) 0 (spec.gate_lines gate.now)) }
+fn put_gate_item(page: &mut Page, gate: &GateItem) -> Result<(), OutOfMemory>
+    ensures { OnOk result (sheet_of page.new ≡ put_lines (sheet_of page.old) [] (spec.gate_lines gate.now)) }
 {
-    page.begin(0)?;
+    page.begin("")?;
     put_gate_head(page, gate)?;
     open_body(page)?;
     put_gate_statements(page, gate.body.as_slice())?;
-    close_body(page, 0)?;
+    close_body(page, "")?;
     page.end()
 }
 
 /// The head of a gate.
 #[tactic(auto, using(crate::proofs::Puts::puts_both))]
-fn put_gate_head(page: &mut Page, gate: &GateItem) -> Result<(), AllocError>
+fn put_gate_head(page: &mut Page, gate: &GateItem) -> Result<(), OutOfMemory>
     ensures { OnOk result (sheet_of page.new ≡ puts (sheet_of page.old) (spec.gate_head gate.now)) }
 {
     page.put(Role::Keyword, "gate")?;
@@ -271,7 +277,7 @@ fn put_gate_head(page: &mut Page, gate: &GateItem) -> Result<(), AllocError>
 
 /// The parameters of a gate in parentheses, where these stand.
 #[tactic(auto, using(crate::proofs::Puts::puts_both))]
-fn put_parameter_names(page: &mut Page, names: &Option<Items<Label>>) -> Result<(), AllocError>
+fn put_parameter_names(page: &mut Page, names: &Option<Items<Label>>) -> Result<(), OutOfMemory>
     ensures { OnOk result (sheet_of page.new ≡ puts (sheet_of page.old) (lexemes.optional spec.parameters_lexemes names.now)) }
 {
     match names {
@@ -285,8 +291,8 @@ fn put_parameter_names(page: &mut Page, names: &Option<Items<Label>>) -> Result<
 }
 
 /// The statements of a gate's body.
-fn put_gate_statements(page: &mut Page, all: &[GateStatement]) -> Result<(), AllocError>
-    ensures { OnOk result (sheet_of page.new ≡ put_lines (sheet_of page.old) 1 (statements.all_lines (map spec.gate_statement_lines all.now))) }
+fn put_gate_statements(page: &mut Page, all: &[GateStatement]) -> Result<(), OutOfMemory>
+    ensures { OnOk result (sheet_of page.new ≡ put_lines (sheet_of page.old) (codes "  ") (statements.all_lines (map spec.gate_statement_lines all.now))) }
 {
     for statement in all {
         put_gate_statement(page, statement)?;
@@ -296,10 +302,10 @@ fn put_gate_statements(page: &mut Page, all: &[GateStatement]) -> Result<(), All
 
 /// A statement of a gate's body.
 #[tactic(auto, using(crate::proofs::Lines::sentence_put, crate::proofs::Puts::puts_both))]
-fn put_gate_statement(page: &mut Page, statement: &GateStatement) -> Result<(), AllocError>
-    ensures { OnOk result (sheet_of page.new ≡ put_lines (sheet_of page.old) 1 (spec.gate_statement_lines statement.now)) }
+fn put_gate_statement(page: &mut Page, statement: &GateStatement) -> Result<(), OutOfMemory>
+    ensures { OnOk result (sheet_of page.new ≡ put_lines (sheet_of page.old) (codes "  ") (spec.gate_statement_lines statement.now)) }
 {
-    page.begin(1)?;
+    page.begin("  ")?;
     match &statement.form {
         GateForm::Call { call } => put_gate_call(page, call),
         GateForm::Barrier { qubits } => put_gate_barrier(page, qubits.as_slice()),
@@ -308,7 +314,7 @@ fn put_gate_statement(page: &mut Page, statement: &GateStatement) -> Result<(), 
 
 /// A barrier in a gate's body.
 #[tactic(auto, using(crate::proofs::Puts::puts_both))]
-fn put_gate_barrier(page: &mut Page, qubits: &[Label]) -> Result<(), AllocError>
+fn put_gate_barrier(page: &mut Page, qubits: &[Label]) -> Result<(), OutOfMemory>
     ensures { OnOk result (sheet_of page.new ≡ put_sentence (sheet_of page.old) (spec.gate_barrier_lexemes qubits.now)) }
 {
     page.put(Role::Keyword, "barrier")?;
@@ -318,18 +324,18 @@ fn put_gate_barrier(page: &mut Page, qubits: &[Label]) -> Result<(), AllocError>
 
 /// A subroutine.
 #[tactic(auto, using(crate::proofs::Lines::block_put, crate::proofs::Puts::puts_both))]
-fn put_definition(page: &mut Page, definition: &Definition) -> Result<(), AllocError>
-    ensures { OnOk result (sheet_of page.new ≡ put_lines (sheet_of page.old) 0 (spec.definition_lines definition.now)) }
+fn put_definition(page: &mut Page, definition: &Definition) -> Result<(), OutOfMemory>
+    ensures { OnOk result (sheet_of page.new ≡ put_lines (sheet_of page.old) [] (spec.definition_lines definition.now)) }
 {
-    page.begin(0)?;
+    page.begin("")?;
     put_definition_head(page, definition)?;
-    put_body(page, 0, definition.body.as_slice())?;
+    put_body(page, "", definition.body.as_slice())?;
     page.end()
 }
 
 /// The head of a subroutine.
 #[tactic(auto, using(crate::proofs::Puts::puts_both))]
-fn put_definition_head(page: &mut Page, definition: &Definition) -> Result<(), AllocError>
+fn put_definition_head(page: &mut Page, definition: &Definition) -> Result<(), OutOfMemory>
     ensures { OnOk result (sheet_of page.new ≡ puts (sheet_of page.old) (spec.definition_head definition.now)) }
 {
     page.put(Role::Keyword, "def")?;
@@ -341,7 +347,7 @@ fn put_definition_head(page: &mut Page, definition: &Definition) -> Result<(), A
 }
 
 /// Parameters with commas between.
-fn put_parameters(page: &mut Page, parameters: &[Parameter]) -> Result<(), AllocError>
+fn put_parameters(page: &mut Page, parameters: &[Parameter]) -> Result<(), OutOfMemory>
     ensures { OnOk result (sheet_of page.new ≡ puts (sheet_of page.old) (lexemes.separated lexemes.comma (map spec.parameter_lexemes parameters.now))) }
 {
     let mut first = true;
@@ -357,7 +363,7 @@ fn put_parameters(page: &mut Page, parameters: &[Parameter]) -> Result<(), Alloc
 
 /// A parameter.
 #[tactic(auto, using(crate::proofs::Puts::puts_both))]
-fn put_parameter(page: &mut Page, parameter: &Parameter) -> Result<(), AllocError>
+fn put_parameter(page: &mut Page, parameter: &Parameter) -> Result<(), OutOfMemory>
     ensures { OnOk result (sheet_of page.new ≡ puts (sheet_of page.old) (spec.parameter_lexemes parameter.now)) }
 {
     match parameter {
@@ -370,7 +376,7 @@ fn put_parameter(page: &mut Page, parameter: &Parameter) -> Result<(), AllocErro
 }
 
 /// `->` and the type of a result, where it stands.
-fn put_result(page: &mut Page, of: &Option<Scalar>) -> Result<(), AllocError>
+fn put_result(page: &mut Page, of: &Option<Scalar>) -> Result<(), OutOfMemory>
     ensures { OnOk result (sheet_of page.new ≡ puts (sheet_of page.old) (lexemes.optional spec.result_lexemes of.now)) }
 {
     match of {

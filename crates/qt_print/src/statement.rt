@@ -1,64 +1,32 @@
 //! Statements: one a line, and each body in braces.
 
 ghost use Rattle.std.specs.Prelude.{◌≡◌, ◌+◌, ◌++◌, codes, map, OnOk, IfOk};
-ghost use Rattle.qt_print.specs.Lexemes as lexemes;
+ghost use Rattle.qt_lexemes.specs.Lexemes as lexemes;
 ghost use Rattle.qt_print.specs.Expressions as expressions;
 ghost use Rattle.qt_print.specs.Statements as spec;
+ghost use Rattle.qt_lexemes.specs.Page as sheets;
 ghost use Rattle.qt_print.specs.Page as pages;
-ghost use Rattle.qt_print.specs.Page.{sheet_of, puts, put_sentence, put_lines};
+ghost use Rattle.qt_lexemes.specs.Page.{sheet_of};
+ghost use Rattle.qt_print.specs.Page.{puts, put_sentence, put_lines};
 
 use crate::expression::{
-    operator_text, put_arguments, put_brackets, put_expr, put_index, put_parenthesized, put_range,
-    put_scalar, put_set,
+    put_arguments, put_brackets, put_expr, put_index, put_parenthesized, put_range, put_scalar,
+    put_set,
 };
-use crate::page::Page;
-use crate::role::Role;
-use qt_tree::expression::{Expr, InfixOperator, Scalar};
+use qt_lexemes::operator::compound_text;
+use qt_lexemes::page::Page;
+use qt_lexemes::role::Role;
+use qt_outside::faults::OutOfMemory;
+use qt_tree::expression::{CompoundOperator, Expr, Scalar};
 use qt_tree::label::Label;
 use qt_tree::statement::{
     CalledGate, GateCall, Modifier, Operand, Right, Sequence, Statement, StatementForm, Target,
 };
 use sqlite_items::Items;
-use std::alloc::AllocError;
-
-/// The number of bodies that the statements of a body stand in. No text has room for more, so past the last number memory
-/// counts as run out.
-pub(crate) fn deeper(depth: usize) -> Result<usize, AllocError>
-    ensures { IfOk result (λ inner. inner ≡ depth + 1) }
-{
-    depth.checked_add(1).ok_or(AllocError)
-}
-
-/// How a compound assignment is written.
-fn compound_text(operator: InfixOperator) -> &'static str
-    ensures { result.now ≡ expressions.operator_text operator ++ codes "=" }
-{
-    match operator {
-        InfixOperator::LogicalOr => "||=",
-        InfixOperator::LogicalAnd => "&&=",
-        InfixOperator::Or => "|=",
-        InfixOperator::Xor => "^=",
-        InfixOperator::And => "&=",
-        InfixOperator::Eq => "===",
-        InfixOperator::Ne => "!==",
-        InfixOperator::Lt => "<=",
-        InfixOperator::Le => "<==",
-        InfixOperator::Gt => ">=",
-        InfixOperator::Ge => ">==",
-        InfixOperator::Shl => "<<=",
-        InfixOperator::Shr => ">>=",
-        InfixOperator::Add => "+=",
-        InfixOperator::Sub => "-=",
-        InfixOperator::Mul => "*=",
-        InfixOperator::Div => "/=",
-        InfixOperator::Rem => "%=",
-        InfixOperator::Pow => "**=",
-    }
-}
 
 /// A size in brackets, where it stands.
 #[tactic(auto, using(crate::proofs::Puts::puts_both))]
-pub(crate) fn put_size(page: &mut Page, size: &Option<Expr>) -> Result<(), AllocError>
+pub(crate) fn put_size(page: &mut Page, size: &Option<Expr>) -> Result<(), OutOfMemory>
     ensures { OnOk result (sheet_of page.new ≡ puts (sheet_of page.old) (expressions.size_lexemes size.now)) }
 {
     match size {
@@ -73,7 +41,7 @@ pub(crate) fn put_size(page: &mut Page, size: &Option<Expr>) -> Result<(), Alloc
 
 /// An operand.
 #[tactic(auto, using(crate::proofs::Puts::puts_both))]
-fn put_operand(page: &mut Page, operand: &Operand) -> Result<(), AllocError>
+fn put_operand(page: &mut Page, operand: &Operand) -> Result<(), OutOfMemory>
     ensures { OnOk result (sheet_of page.new ≡ puts (sheet_of page.old) (spec.operand_lexemes operand.now)) }
 {
     page.put(Role::Name, operand.name.text())?;
@@ -88,7 +56,7 @@ fn put_operand(page: &mut Page, operand: &Operand) -> Result<(), AllocError>
 }
 
 /// Operands with commas between.
-fn put_operands(page: &mut Page, operands: &[Operand]) -> Result<(), AllocError>
+fn put_operands(page: &mut Page, operands: &[Operand]) -> Result<(), OutOfMemory>
     ensures { OnOk result (sheet_of page.new ≡ puts (sheet_of page.old) (spec.operands_lexemes operands.now)) }
 {
     let mut first = true;
@@ -103,7 +71,7 @@ fn put_operands(page: &mut Page, operands: &[Operand]) -> Result<(), AllocError>
 }
 
 /// The parts of an alias, with `++` between.
-fn put_parts(page: &mut Page, parts: &[Operand]) -> Result<(), AllocError>
+fn put_parts(page: &mut Page, parts: &[Operand]) -> Result<(), OutOfMemory>
     ensures { OnOk result (sheet_of page.new ≡ puts (sheet_of page.old) (spec.parts_lexemes parts.now)) }
 {
     let mut first = true;
@@ -118,7 +86,7 @@ fn put_parts(page: &mut Page, parts: &[Operand]) -> Result<(), AllocError>
 }
 
 /// A target.
-fn put_target(page: &mut Page, target: &Target) -> Result<(), AllocError>
+fn put_target(page: &mut Page, target: &Target) -> Result<(), OutOfMemory>
     ensures { OnOk result (sheet_of page.new ≡ puts (sheet_of page.old) (spec.target_lexemes target.now)) }
 {
     page.put(Role::Name, target.name.text())?;
@@ -126,7 +94,7 @@ fn put_target(page: &mut Page, target: &Target) -> Result<(), AllocError>
 }
 
 /// A right side.
-fn put_right(page: &mut Page, right: &Right) -> Result<(), AllocError>
+fn put_right(page: &mut Page, right: &Right) -> Result<(), OutOfMemory>
     ensures { OnOk result (sheet_of page.new ≡ puts (sheet_of page.old) (spec.right_lexemes right.now)) }
 {
     match right {
@@ -139,7 +107,7 @@ fn put_right(page: &mut Page, right: &Right) -> Result<(), AllocError>
 }
 
 /// `=` and a right side.
-fn put_assigned(page: &mut Page, right: &Right) -> Result<(), AllocError>
+fn put_assigned(page: &mut Page, right: &Right) -> Result<(), OutOfMemory>
     ensures { OnOk result (sheet_of page.new ≡ puts (sheet_of page.old) (spec.assigned right.now)) }
 {
     page.put(Role::Operator, "=")?;
@@ -147,7 +115,7 @@ fn put_assigned(page: &mut Page, right: &Right) -> Result<(), AllocError>
 }
 
 /// A count in parentheses, where it stands.
-fn put_count(page: &mut Page, count: &Option<Expr>) -> Result<(), AllocError>
+fn put_count(page: &mut Page, count: &Option<Expr>) -> Result<(), OutOfMemory>
     ensures { OnOk result (sheet_of page.new ≡ puts (sheet_of page.old) (spec.count_lexemes count.now)) }
 {
     match count {
@@ -157,7 +125,7 @@ fn put_count(page: &mut Page, count: &Option<Expr>) -> Result<(), AllocError>
 }
 
 /// A modifier.
-fn put_modifier(page: &mut Page, modifier: &Modifier) -> Result<(), AllocError>
+fn put_modifier(page: &mut Page, modifier: &Modifier) -> Result<(), OutOfMemory>
     ensures { OnOk result (sheet_of page.new ≡ puts (sheet_of page.old) (spec.modifier_lexemes modifier.now)) }
 {
     match modifier {
@@ -179,7 +147,7 @@ fn put_modifier(page: &mut Page, modifier: &Modifier) -> Result<(), AllocError>
 
 /// A modifier and its `@`.
 #[tactic(auto, using(crate::proofs::Puts::puts_both))]
-fn put_modifying(page: &mut Page, modifier: &Modifier) -> Result<(), AllocError>
+fn put_modifying(page: &mut Page, modifier: &Modifier) -> Result<(), OutOfMemory>
     ensures { OnOk result (sheet_of page.new ≡ puts (sheet_of page.old) (spec.modifying modifier.now)) }
 {
     put_modifier(page, modifier)?;
@@ -187,7 +155,7 @@ fn put_modifying(page: &mut Page, modifier: &Modifier) -> Result<(), AllocError>
 }
 
 /// The modifiers of a call, each with its `@`.
-fn put_modifiers(page: &mut Page, modifiers: &[Modifier]) -> Result<(), AllocError>
+fn put_modifiers(page: &mut Page, modifiers: &[Modifier]) -> Result<(), OutOfMemory>
     ensures { OnOk result (sheet_of page.new ≡ puts (sheet_of page.old) (lexemes.joined (map spec.modifying modifiers.now))) }
 {
     for modifier in modifiers {
@@ -197,7 +165,7 @@ fn put_modifiers(page: &mut Page, modifiers: &[Modifier]) -> Result<(), AllocErr
 }
 
 /// What a gate call calls.
-fn put_gate(page: &mut Page, gate: &CalledGate) -> Result<(), AllocError>
+fn put_gate(page: &mut Page, gate: &CalledGate) -> Result<(), OutOfMemory>
     ensures { OnOk result (sheet_of page.new ≡ puts (sheet_of page.old) (spec.gate_lexemes gate.now)) }
 {
     match gate {
@@ -217,7 +185,7 @@ fn put_gate(page: &mut Page, gate: &CalledGate) -> Result<(), AllocError>
 
 /// A gate call.
 #[tactic(auto, using(crate::proofs::Puts::puts_both))]
-fn put_call(page: &mut Page, call: &GateCall) -> Result<(), AllocError>
+fn put_call(page: &mut Page, call: &GateCall) -> Result<(), OutOfMemory>
     ensures { OnOk result (sheet_of page.new ≡ puts (sheet_of page.old) (spec.call_lexemes call.now)) }
 {
     put_modifiers(page, call.modifiers.as_slice())?;
@@ -227,7 +195,7 @@ fn put_call(page: &mut Page, call: &GateCall) -> Result<(), AllocError>
 
 /// What a `for` goes over.
 #[tactic(auto, using(crate::proofs::Puts::puts_both))]
-fn put_sequence(page: &mut Page, sequence: &Sequence) -> Result<(), AllocError>
+fn put_sequence(page: &mut Page, sequence: &Sequence) -> Result<(), OutOfMemory>
     ensures { OnOk result (sheet_of page.new ≡ puts (sheet_of page.old) (spec.sequence_lexemes sequence.now)) }
 {
     match sequence {
@@ -242,8 +210,8 @@ fn put_sequence(page: &mut Page, sequence: &Sequence) -> Result<(), AllocError>
 }
 
 /// The end of a statement on a line of its own.
-pub(crate) fn finish(page: &mut Page) -> Result<(), AllocError>
-    ensures { OnOk result (sheet_of page.new ≡ pages.ended (pages.put_on (sheet_of page.old) lexemes.semicolon)) }
+pub(crate) fn finish(page: &mut Page) -> Result<(), OutOfMemory>
+    ensures { OnOk result (sheet_of page.new ≡ sheets.ended (sheets.put_on (sheet_of page.old) lexemes.semicolon)) }
 {
     page.put(Role::Semicolon, ";")?;
     page.end()
@@ -251,7 +219,7 @@ pub(crate) fn finish(page: &mut Page) -> Result<(), AllocError>
 
 /// A statement that is one keyword.
 #[tactic(auto, using(crate::proofs::Puts::puts_both))]
-fn put_single(page: &mut Page, keyword: &str) -> Result<(), AllocError>
+fn put_single(page: &mut Page, keyword: &str) -> Result<(), OutOfMemory>
     ensures { OnOk result (sheet_of page.new ≡ put_sentence (sheet_of page.old) (spec.single_lexemes keyword.now)) }
 {
     page.put(Role::Keyword, keyword)?;
@@ -265,7 +233,7 @@ fn put_declaration(
     scalar: &Scalar,
     name: &Label,
     value: &Option<Right>,
-) -> Result<(), AllocError>
+) -> Result<(), OutOfMemory>
     ensures { OnOk result (sheet_of page.new ≡ put_sentence (sheet_of page.old) (spec.declaration_lexemes scalar.now name.now value.now)) }
 {
     put_scalar(page, scalar)?;
@@ -275,7 +243,7 @@ fn put_declaration(
 }
 
 /// The first value of a variable, where it stands.
-fn put_first_value(page: &mut Page, value: &Option<Right>) -> Result<(), AllocError>
+fn put_first_value(page: &mut Page, value: &Option<Right>) -> Result<(), OutOfMemory>
     ensures { OnOk result (sheet_of page.new ≡ puts (sheet_of page.old) (lexemes.optional spec.assigned value.now)) }
 {
     match value {
@@ -291,7 +259,7 @@ pub(crate) fn put_register(
     keyword: &str,
     name: &Label,
     size: &Option<Expr>,
-) -> Result<(), AllocError>
+) -> Result<(), OutOfMemory>
     ensures { OnOk result (sheet_of page.new ≡ put_sentence (sheet_of page.old) (spec.register_lexemes keyword.now name.now size.now)) }
 {
     page.put(Role::Keyword, keyword)?;
@@ -307,7 +275,7 @@ fn put_constant(
     scalar: &Scalar,
     name: &Label,
     value: &Expr,
-) -> Result<(), AllocError>
+) -> Result<(), OutOfMemory>
     ensures { OnOk result (sheet_of page.new ≡ put_sentence (sheet_of page.old) (spec.constant_lexemes scalar.now name.now value.now)) }
 {
     page.put(Role::Keyword, "const")?;
@@ -320,7 +288,7 @@ fn put_constant(
 
 /// An alias.
 #[tactic(auto, using(crate::proofs::Puts::puts_both))]
-fn put_alias(page: &mut Page, name: &Label, parts: &[Operand]) -> Result<(), AllocError>
+fn put_alias(page: &mut Page, name: &Label, parts: &[Operand]) -> Result<(), OutOfMemory>
     ensures { OnOk result (sheet_of page.new ≡ put_sentence (sheet_of page.old) (spec.alias_lexemes name.now parts.now)) }
 {
     page.put(Role::Keyword, "let")?;
@@ -332,7 +300,7 @@ fn put_alias(page: &mut Page, name: &Label, parts: &[Operand]) -> Result<(), All
 
 /// An assignment.
 #[tactic(auto, using(crate::proofs::Puts::puts_both))]
-fn put_assignment(page: &mut Page, target: &Target, value: &Right) -> Result<(), AllocError>
+fn put_assignment(page: &mut Page, target: &Target, value: &Right) -> Result<(), OutOfMemory>
     ensures { OnOk result (sheet_of page.new ≡ put_sentence (sheet_of page.old) (spec.assignment_lexemes target.now value.now)) }
 {
     put_target(page, target)?;
@@ -345,9 +313,9 @@ fn put_assignment(page: &mut Page, target: &Target, value: &Right) -> Result<(),
 fn put_compound(
     page: &mut Page,
     target: &Target,
-    operator: InfixOperator,
+    operator: CompoundOperator,
     value: &Expr,
-) -> Result<(), AllocError>
+) -> Result<(), OutOfMemory>
     ensures { OnOk result (sheet_of page.new ≡ put_sentence (sheet_of page.old) (spec.compound_lexemes target.now operator value.now)) }
 {
     put_target(page, target)?;
@@ -362,7 +330,7 @@ fn put_measurement(
     page: &mut Page,
     qubits: &Operand,
     target: &Option<Target>,
-) -> Result<(), AllocError>
+) -> Result<(), OutOfMemory>
     ensures { OnOk result (sheet_of page.new ≡ put_sentence (sheet_of page.old) (spec.measurement_lexemes qubits.now target.now)) }
 {
     page.put(Role::Keyword, "measure")?;
@@ -372,7 +340,7 @@ fn put_measurement(
 }
 
 /// `->` and the target of a measurement, where it stands.
-fn put_stored(page: &mut Page, target: &Option<Target>) -> Result<(), AllocError>
+fn put_stored(page: &mut Page, target: &Option<Target>) -> Result<(), OutOfMemory>
     ensures { OnOk result (sheet_of page.new ≡ puts (sheet_of page.old) (lexemes.optional spec.stored target.now)) }
 {
     match target {
@@ -386,7 +354,7 @@ fn put_stored(page: &mut Page, target: &Option<Target>) -> Result<(), AllocError
 
 /// A reset.
 #[tactic(auto, using(crate::proofs::Puts::puts_both))]
-fn put_reset(page: &mut Page, qubits: &Operand) -> Result<(), AllocError>
+fn put_reset(page: &mut Page, qubits: &Operand) -> Result<(), OutOfMemory>
     ensures { OnOk result (sheet_of page.new ≡ put_sentence (sheet_of page.old) (spec.reset_lexemes qubits.now)) }
 {
     page.put(Role::Keyword, "reset")?;
@@ -396,7 +364,7 @@ fn put_reset(page: &mut Page, qubits: &Operand) -> Result<(), AllocError>
 
 /// A barrier.
 #[tactic(auto, using(crate::proofs::Puts::puts_both))]
-fn put_barrier(page: &mut Page, qubits: &[Operand]) -> Result<(), AllocError>
+fn put_barrier(page: &mut Page, qubits: &[Operand]) -> Result<(), OutOfMemory>
     ensures { OnOk result (sheet_of page.new ≡ put_sentence (sheet_of page.old) (spec.barrier_lexemes qubits.now)) }
 {
     page.put(Role::Keyword, "barrier")?;
@@ -406,7 +374,7 @@ fn put_barrier(page: &mut Page, qubits: &[Operand]) -> Result<(), AllocError>
 
 /// A gate call as a statement.
 #[tactic(auto, using(crate::proofs::Puts::puts_both))]
-pub(crate) fn put_gate_call(page: &mut Page, call: &GateCall) -> Result<(), AllocError>
+pub(crate) fn put_gate_call(page: &mut Page, call: &GateCall) -> Result<(), OutOfMemory>
     ensures { OnOk result (sheet_of page.new ≡ put_sentence (sheet_of page.old) (spec.call_lexemes call.now)) }
 {
     put_call(page, call)?;
@@ -415,7 +383,7 @@ pub(crate) fn put_gate_call(page: &mut Page, call: &GateCall) -> Result<(), Allo
 
 /// A subroutine's call.
 #[tactic(auto, using(crate::proofs::Puts::puts_both))]
-fn put_subroutine_call(page: &mut Page, name: &Label, arguments: &[Expr]) -> Result<(), AllocError>
+fn put_subroutine_call(page: &mut Page, name: &Label, arguments: &[Expr]) -> Result<(), OutOfMemory>
     ensures { OnOk result (sheet_of page.new ≡ put_sentence (sheet_of page.old) (spec.subroutine_lexemes name.now arguments.now)) }
 {
     page.put(Role::Name, name.text())?;
@@ -425,7 +393,7 @@ fn put_subroutine_call(page: &mut Page, name: &Label, arguments: &[Expr]) -> Res
 
 /// `return` and what is returned, where it stands.
 #[tactic(auto, using(crate::proofs::Puts::puts_both))]
-fn put_return(page: &mut Page, value: &Option<Right>) -> Result<(), AllocError>
+fn put_return(page: &mut Page, value: &Option<Right>) -> Result<(), OutOfMemory>
     ensures { OnOk result (sheet_of page.new ≡ put_sentence (sheet_of page.old) (spec.return_lexemes value.now)) }
 {
     page.put(Role::Keyword, "return")?;
@@ -434,7 +402,7 @@ fn put_return(page: &mut Page, value: &Option<Right>) -> Result<(), AllocError>
 }
 
 /// What is returned, where it stands.
-fn put_returned(page: &mut Page, value: &Option<Right>) -> Result<(), AllocError>
+fn put_returned(page: &mut Page, value: &Option<Right>) -> Result<(), OutOfMemory>
     ensures { OnOk result (sheet_of page.new ≡ puts (sheet_of page.old) (lexemes.optional spec.right_lexemes value.now)) }
 {
     match value {
@@ -445,7 +413,7 @@ fn put_returned(page: &mut Page, value: &Option<Right>) -> Result<(), AllocError
 
 /// A head with a condition: `if` or `while`.
 #[tactic(auto, using(crate::proofs::Puts::puts_both))]
-fn put_condition(page: &mut Page, head: &str, condition: &Expr) -> Result<(), AllocError>
+fn put_condition(page: &mut Page, head: &str, condition: &Expr) -> Result<(), OutOfMemory>
     ensures { OnOk result (sheet_of page.new ≡ puts (sheet_of page.old) (spec.condition_lexemes head.now condition.now)) }
 {
     page.put(Role::Head, head)?;
@@ -459,7 +427,7 @@ fn put_for_head(
     scalar: &Scalar,
     name: &Label,
     values: &Sequence,
-) -> Result<(), AllocError>
+) -> Result<(), OutOfMemory>
     ensures { OnOk result (sheet_of page.new ≡ puts (sheet_of page.old) (spec.for_lexemes scalar.now name.now values.now)) }
 {
     page.put(Role::Head, "for")?;
@@ -470,41 +438,41 @@ fn put_for_head(
 }
 
 /// The `{` of a body, which ends the head's line.
-pub(crate) fn open_body(page: &mut Page) -> Result<(), AllocError>
-    ensures { OnOk result (sheet_of page.new ≡ pages.ended (pages.put_on (sheet_of page.old) spec.body_start)) }
+pub(crate) fn open_body(page: &mut Page) -> Result<(), OutOfMemory>
+    ensures { OnOk result (sheet_of page.new ≡ sheets.ended (sheets.put_on (sheet_of page.old) spec.body_start)) }
 {
     page.put(Role::BodyStart, "{")?;
     page.end()
 }
 
 /// The `}` of a body, which begins a line.
-pub(crate) fn close_body(page: &mut Page, depth: usize) -> Result<(), AllocError>
-    ensures { OnOk result (sheet_of page.new ≡ pages.put_on (pages.begun (sheet_of page.old) depth) spec.body_end) }
+pub(crate) fn close_body(page: &mut Page, margin: &str) -> Result<(), OutOfMemory>
+    ensures { OnOk result (sheet_of page.new ≡ sheets.put_on (sheets.begun (sheet_of page.old) margin.now) spec.body_end) }
 {
-    page.begin(depth)?;
+    page.begin(margin)?;
     page.put(Role::BodyEnd, "}")
 }
 
-/// A statement that stands in so many bodies.
+/// A statement whose lines have at least this margin.
 #[tactic(auto, using(crate::proofs::Lines::statement_is))]
 #[cycle(statement)]
 pub(crate) fn put_statement(
     page: &mut Page,
-    depth: usize,
+    margin: &str,
     statement: &Statement,
-) -> Result<(), AllocError>
-    ensures { OnOk result (sheet_of page.new ≡ put_lines (sheet_of page.old) depth (spec.statement_lines statement.now)) }
+) -> Result<(), OutOfMemory>
+    ensures { OnOk result (sheet_of page.new ≡ put_lines (sheet_of page.old) margin.now (spec.statement_lines statement.now)) }
 {
-    put_form(page, depth, &statement.form)
+    put_form(page, margin, &statement.form)
 }
 
 /// One form of a statement.
 #[tactic(auto, using(crate::proofs::Lines::forms))]
 #[cycle(statement)]
-fn put_form(page: &mut Page, depth: usize, form: &StatementForm) -> Result<(), AllocError>
-    ensures { OnOk result (sheet_of page.new ≡ put_lines (sheet_of page.old) depth (spec.form_lines form.now)) }
+fn put_form(page: &mut Page, margin: &str, form: &StatementForm) -> Result<(), OutOfMemory>
+    ensures { OnOk result (sheet_of page.new ≡ put_lines (sheet_of page.old) margin.now (spec.form_lines form.now)) }
 {
-    page.begin(depth)?;
+    page.begin(margin)?;
     match form {
         StatementForm::Declaration {
             scalar,
@@ -535,16 +503,16 @@ fn put_form(page: &mut Page, depth: usize, form: &StatementForm) -> Result<(), A
             condition,
             body,
             otherwise,
-        } => put_if(page, depth, condition, body.as_slice(), otherwise),
+        } => put_if(page, margin, condition, body.as_slice(), otherwise),
         StatementForm::While { condition, body } => {
-            put_while(page, depth, condition, body.as_slice())
+            put_while(page, margin, condition, body.as_slice())
         }
         StatementForm::For {
             scalar,
             name,
             values,
             body,
-        } => put_for(page, depth, scalar, name, values, body.as_slice()),
+        } => put_for(page, margin, scalar, name, values, body.as_slice()),
         StatementForm::Break => put_single(page, "break"),
         StatementForm::Continue => put_single(page, "continue"),
         StatementForm::Return { value } => put_return(page, value),
@@ -556,16 +524,16 @@ fn put_form(page: &mut Page, depth: usize, form: &StatementForm) -> Result<(), A
 #[cycle(statement)]
 fn put_if(
     page: &mut Page,
-    depth: usize,
+    margin: &str,
     condition: &Expr,
     body: &[Statement],
     otherwise: &Option<Items<Statement>>,
-) -> Result<(), AllocError>
-    ensures { OnOk result (sheet_of page.new ≡ pages.put_if (sheet_of page.old) depth (spec.condition_lexemes (codes "if") condition.now) (map spec.statement_lines body.now) (pages.each_lines otherwise.now)) }
+) -> Result<(), OutOfMemory>
+    ensures { OnOk result (sheet_of page.new ≡ pages.put_if (sheet_of page.old) margin.now (spec.condition_lexemes (codes "if") condition.now) (map spec.statement_lines body.now) (pages.each_lines otherwise.now)) }
 {
     put_condition(page, "if", condition)?;
-    put_body(page, depth, body)?;
-    put_else(page, depth, otherwise)?;
+    put_body(page, margin, body)?;
+    put_else(page, margin, otherwise)?;
     page.end()
 }
 
@@ -573,16 +541,16 @@ fn put_if(
 #[cycle(statement)]
 fn put_else(
     page: &mut Page,
-    depth: usize,
+    margin: &str,
     otherwise: &Option<Items<Statement>>,
-) -> Result<(), AllocError>
-    ensures { OnOk result (sheet_of page.new ≡ pages.put_else (sheet_of page.old) depth (pages.each_lines otherwise.now)) }
+) -> Result<(), OutOfMemory>
+    ensures { OnOk result (sheet_of page.new ≡ pages.put_else (sheet_of page.old) margin.now (pages.each_lines otherwise.now)) }
 {
     match otherwise {
         None => Ok(()),
         Some(otherwise) => {
             page.put(Role::Else, "else")?;
-            put_body(page, depth, otherwise.as_slice())
+            put_body(page, margin, otherwise.as_slice())
         }
     }
 }
@@ -591,14 +559,14 @@ fn put_else(
 #[cycle(statement)]
 fn put_while(
     page: &mut Page,
-    depth: usize,
+    margin: &str,
     condition: &Expr,
     body: &[Statement],
-) -> Result<(), AllocError>
-    ensures { OnOk result (sheet_of page.new ≡ pages.put_block (sheet_of page.old) depth (spec.condition_lexemes (codes "while") condition.now) (map spec.statement_lines body.now)) }
+) -> Result<(), OutOfMemory>
+    ensures { OnOk result (sheet_of page.new ≡ pages.put_block (sheet_of page.old) margin.now (spec.condition_lexemes (codes "while") condition.now) (map spec.statement_lines body.now)) }
 {
     put_condition(page, "while", condition)?;
-    put_body(page, depth, body)?;
+    put_body(page, margin, body)?;
     page.end()
 }
 
@@ -606,36 +574,37 @@ fn put_while(
 #[cycle(statement)]
 fn put_for(
     page: &mut Page,
-    depth: usize,
+    margin: &str,
     scalar: &Scalar,
     name: &Label,
     values: &Sequence,
     body: &[Statement],
-) -> Result<(), AllocError>
-    ensures { OnOk result (sheet_of page.new ≡ pages.put_block (sheet_of page.old) depth (spec.for_lexemes scalar.now name.now values.now) (map spec.statement_lines body.now)) }
+) -> Result<(), OutOfMemory>
+    ensures { OnOk result (sheet_of page.new ≡ pages.put_block (sheet_of page.old) margin.now (spec.for_lexemes scalar.now name.now values.now) (map spec.statement_lines body.now)) }
 {
     put_for_head(page, scalar, name, values)?;
-    put_body(page, depth, body)?;
+    put_body(page, margin, body)?;
     page.end()
 }
 
 /// A body behind its head, up to its `}`.
 #[cycle(statement)]
-pub(crate) fn put_body(page: &mut Page, depth: usize, body: &[Statement]) -> Result<(), AllocError>
-    ensures { OnOk result (sheet_of page.new ≡ pages.put_body (sheet_of page.old) depth (map spec.statement_lines body.now)) }
+pub(crate) fn put_body(page: &mut Page, margin: &str, body: &[Statement]) -> Result<(), OutOfMemory>
+    ensures { OnOk result (sheet_of page.new ≡ pages.put_body (sheet_of page.old) margin.now (map spec.statement_lines body.now)) }
 {
     open_body(page)?;
-    put_statements(page, deeper(depth)?, body)?;
-    close_body(page, depth)
+    let inner = page.deeper(margin)?;
+    put_statements(page, inner.as_str(), body)?;
+    close_body(page, margin)
 }
 
-/// Statements that stand in so many bodies.
+/// Statements whose lines have at least this margin.
 #[cycle(statement)]
-fn put_statements(page: &mut Page, depth: usize, all: &[Statement]) -> Result<(), AllocError>
-    ensures { OnOk result (sheet_of page.new ≡ put_lines (sheet_of page.old) depth (spec.all_lines (map spec.statement_lines all.now))) }
+fn put_statements(page: &mut Page, margin: &str, all: &[Statement]) -> Result<(), OutOfMemory>
+    ensures { OnOk result (sheet_of page.new ≡ put_lines (sheet_of page.old) margin.now (spec.all_lines (map spec.statement_lines all.now))) }
 {
     for statement in all {
-        put_statement(page, depth, statement)?;
+        put_statement(page, margin, statement)?;
     }
     Ok(())
 }

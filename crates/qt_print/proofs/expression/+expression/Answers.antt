@@ -1,7 +1,8 @@
 use Rattle.std.proofs.Common.{◌∙◌, inl, inr, ap}
-use Rattle.qt_print.specs.Lexemes.{comma}
+use Rattle.qt_lexemes.specs.Lexemes.{comma}
 use Rattle.qt_print.specs.Expressions.{expr_lexemes, index_lexemes, bracket_lexemes}
-use Rattle.qt_print.specs.Page.{sheet_of, puts}
+use Rattle.qt_lexemes.specs.Page.{sheet_of}
+use Rattle.qt_print.specs.Page.{puts}
 use Rattle.qt_print.proofs.Puts.{joined_turn, separated_turn}
 use Rattle.qt_print.proofs.expression.+expression.Goals.{put_list-then-not-first+in_ok-put, put_list-else-not-first, put_indexes-then-not-first+in_ok-put, put_indexes-else-not-first}
 use Rattle.qt_print.proofs.expression.+expression.Goals as goal

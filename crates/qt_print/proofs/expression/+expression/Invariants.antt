@@ -1,7 +1,8 @@
 use Rattle.std.proofs.Common.{◌≡◌, ◌+◌, ◌*◌, map, drop}
-use Rattle.qt_print.specs.Lexemes.{comma, joined, separated}
+use Rattle.qt_lexemes.specs.Lexemes.{comma, joined, separated}
 use Rattle.qt_print.specs.Expressions.{expr_lexemes, index_lexemes, bracket_lexemes, brackets_lexemes, list_lexemes}
-use Rattle.qt_print.specs.Page.{sheet_of, puts}
+use Rattle.qt_lexemes.specs.Page.{sheet_of}
+use Rattle.qt_print.specs.Page.{puts}
 use Rattle.qt_print.proofs.Puts.{still_separated}
 use Rattle.qt_print.proofs.expression.+expression.Given as goal
 

@@ -1,7 +1,7 @@
 use Rattle.std.proofs.Common.{◌∙◌, inl, inr, ap}
-use Rattle.qt_print.specs.Lexemes.{comma}
+use Rattle.qt_lexemes.specs.Lexemes.{comma}
 use Rattle.qt_print.specs.Programs.{item_lexemes}
-use Rattle.qt_print.specs.Page.{sheet_of}
+use Rattle.qt_lexemes.specs.Page.{sheet_of}
 use Rattle.qt_print.proofs.Puts.{separated_turn}
 use Rattle.qt_print.proofs.program.+list.Goals.{put_list_items-then-not-first+in_ok-put, put_list_items-else-not-first}
 use Rattle.qt_print.proofs.program.+list.Goals as goal

@@ -1,7 +1,7 @@
 use Rattle.std.proofs.Common.{◌∙◌}
-use Rattle.qt_print.specs.Lexemes.{comma}
+use Rattle.qt_lexemes.specs.Lexemes.{comma}
 use Rattle.qt_print.specs.Expressions.{expr_lexemes}
-use Rattle.qt_print.specs.Page.{sheet_of}
+use Rattle.qt_lexemes.specs.Page.{sheet_of}
 use Rattle.qt_print.proofs.Puts.{behind_turn}
 use Rattle.qt_print.proofs.program.put_dimensions.Goals as goal
 

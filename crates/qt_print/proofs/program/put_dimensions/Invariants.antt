@@ -1,7 +1,8 @@
 use Rattle.std.proofs.Common.{◌≡◌, map, drop}
-use Rattle.qt_print.specs.Lexemes.{comma, each_behind}
+use Rattle.qt_lexemes.specs.Lexemes.{comma, each_behind}
 use Rattle.qt_print.specs.Expressions.{expr_lexemes}
-use Rattle.qt_print.specs.Page.{sheet_of, puts}
+use Rattle.qt_lexemes.specs.Page.{sheet_of}
+use Rattle.qt_print.specs.Page.{puts}
 use Rattle.qt_print.proofs.program.put_dimensions.Given as goal
 
 -- what is put and the dimensions still to come are the whole

@@ -1,11 +1,12 @@
-use Rattle.std.proofs.Common.{◌≡◌, map, drop}
+use Rattle.std.proofs.Common.{◌≡◌, map, drop, []}
 use Rattle.qt_print.specs.Statements.{all_lines}
 use Rattle.qt_print.specs.Programs.{item_lines}
-use Rattle.qt_print.specs.Page.{sheet_of, put_lines}
+use Rattle.qt_lexemes.specs.Page.{sheet_of}
+use Rattle.qt_print.specs.Page.{put_lines}
 use Rattle.qt_print.proofs.program.put_items.Given as goal
 
 -- what is put and what is still to come are the whole
 abbrev pub invariant-loop-item : goal.invariant-loop-item
 invariant-loop-item l =
-    put_lines (sheet_of l.page) 0 (all_lines (map item_lines (drop l.item-index l.items)))
-    ≡ put_lines (sheet_of l.fn.page) 0 (all_lines (map item_lines l.items))
+    put_lines (sheet_of l.page) [] (all_lines (map item_lines (drop l.item-index l.items)))
+    ≡ put_lines (sheet_of l.fn.page) [] (all_lines (map item_lines l.items))

@@ -1,7 +1,8 @@
 use Rattle.std.proofs.Common.{◌≡◌, true, map, drop}
-use Rattle.qt_print.specs.Lexemes.{comma}
+use Rattle.qt_lexemes.specs.Lexemes.{comma}
 use Rattle.qt_print.specs.Programs.{parameter_lexemes}
-use Rattle.qt_print.specs.Page.{sheet_of, puts}
+use Rattle.qt_lexemes.specs.Page.{sheet_of}
+use Rattle.qt_print.specs.Page.{puts}
 use Rattle.qt_print.proofs.Puts.{still_separated}
 use Rattle.qt_print.proofs.program.put_parameters.Given as goal
 

@@ -3,14 +3,15 @@ use denote.Param.Weighed.{most}
 use Rattle.qt_tree.specs.declared.statement.Statement.{Statement, size-Statement}
 use Rattle.qt_tree.specs.declared.statement.StatementForm.{size-StatementForm}
 use Rattle.qt_print.specs.Statements.{all_lines, statement_lines}
-use Rattle.qt_print.specs.Page.{sheet_of, put_lines}
+use Rattle.qt_lexemes.specs.Page.{sheet_of}
+use Rattle.qt_print.specs.Page.{put_lines}
 use Rattle.qt_print.proofs.statement.+statement.Given as goal
 
 -- what is put and the statements still to come are the whole
 abbrev pub invariant-put_statements-loop-statement : goal.invariant-put_statements-loop-statement
 invariant-put_statements-loop-statement l =
-    put_lines (sheet_of l.page) l.depth (all_lines (map statement_lines (drop l.statement-index l.all)))
-    ≡ put_lines (sheet_of l.fn.page) l.depth (all_lines (map statement_lines l.all))
+    put_lines (sheet_of l.page) l.margin (all_lines (map statement_lines (drop l.statement-index l.all)))
+    ≡ put_lines (sheet_of l.fn.page) l.margin (all_lines (map statement_lines l.all))
 
 -- the depth of what is put, and within a depth who calls whom
 abbrev pub size_of_other : Option (List Statement) → ℕ

@@ -1,6 +1,6 @@
 use Rattle.std.proofs.Common.{◌∙◌}
 use Rattle.qt_print.specs.Statements.{modifying}
-use Rattle.qt_print.specs.Page.{sheet_of}
+use Rattle.qt_lexemes.specs.Page.{sheet_of}
 use Rattle.qt_print.proofs.Puts.{joined_turn}
 use Rattle.qt_print.proofs.statement.put_modifiers.Goals as goal
 

@@ -1,7 +1,8 @@
 use Rattle.std.proofs.Common.{◌≡◌, map, drop}
-use Rattle.qt_print.specs.Lexemes.{joined}
+use Rattle.qt_lexemes.specs.Lexemes.{joined}
 use Rattle.qt_print.specs.Statements.{modifying}
-use Rattle.qt_print.specs.Page.{sheet_of, puts}
+use Rattle.qt_lexemes.specs.Page.{sheet_of}
+use Rattle.qt_print.specs.Page.{puts}
 use Rattle.qt_print.proofs.statement.put_modifiers.Given as goal
 
 -- what is put and the modifiers still to come are the whole

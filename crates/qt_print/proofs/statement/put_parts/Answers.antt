@@ -1,7 +1,7 @@
 use Rattle.std.proofs.Common.{◌∙◌, inl, inr, ap}
 use Rattle.qt_print.specs.Statements.{plus_plus}
 use Rattle.qt_print.specs.Statements.{operand_lexemes}
-use Rattle.qt_print.specs.Page.{sheet_of}
+use Rattle.qt_lexemes.specs.Page.{sheet_of}
 use Rattle.qt_print.proofs.Puts.{separated_turn}
 use Rattle.qt_print.proofs.statement.put_parts.Goals.{then-not-first+in_ok-put, else-not-first}
 use Rattle.qt_print.proofs.statement.put_parts.Goals as goal

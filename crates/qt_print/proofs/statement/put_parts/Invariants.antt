@@ -1,7 +1,8 @@
 use Rattle.std.proofs.Common.{◌≡◌, true, map, drop}
 use Rattle.qt_print.specs.Statements.{plus_plus}
 use Rattle.qt_print.specs.Statements.{operand_lexemes}
-use Rattle.qt_print.specs.Page.{sheet_of, puts}
+use Rattle.qt_lexemes.specs.Page.{sheet_of}
+use Rattle.qt_print.specs.Page.{puts}
 use Rattle.qt_print.proofs.Puts.{still_separated}
 use Rattle.qt_print.proofs.statement.put_parts.Given as goal
 

@@ -1,7 +1,7 @@
 use Rattle.std.proofs.Common.{◌≡◌, ◌++◌}
 use Rattle.std.specs.String.{string_bytes}
-use Rattle.qt_print.specs.Literals.{binary_digits}
-use Rattle.qt_print.proofs.literal.push_digits.Given as goal
+use Rattle.qt_lexemes.specs.Literals.{binary_digits}
+use Rattle.qt_lexemes.proofs.literal.push_digits.Given as goal
 
 -- what is written and the digits of the places still to come are the whole
 abbrev pub invariant-loop-place : goal.invariant-loop-place

@@ -1,7 +1,7 @@
 //! What lexemes are to their neighbours on a line.
 
 ghost use Rattle.std.specs.Prelude.{◌≡◌};
-ghost use Rattle.qt_print.specs.Spacing as spacing;
+ghost use Rattle.qt_lexemes.specs.Spacing as spacing;
 
 /// What a lexeme of the text is, as far as the space beside it goes.
 #[derive(Clone, Copy, Debug, PartialEq, Eq)]

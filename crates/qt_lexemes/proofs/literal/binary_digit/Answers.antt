@@ -2,7 +2,7 @@ use Rattle.std.proofs.Common.{◌≡◌, ◌≢◌, ◌/◌, ◌^◌, ◌<◌, �
 use Rattle.std.specs.Int.{bit_at}
 use Rattle.std.specs.Option.{SomeIff, unwrap_or}
 use Rattle.std.proofs.lemmas.Nat.Bits.{shr_and_one, bit_at-lt, bit_at_above}
-use Rattle.qt_print.proofs.literal.binary_digit.Goals as goal
+use Rattle.qt_lexemes.proofs.literal.binary_digit.Goals as goal
 
 -- a bit that isn't 1 is 0, also past the highest place, where the shift answers None
 zero_bit : (value place : ℕ) (shifted : Option ℕ) → value < 2 ^ 64 → SomeIff shifted (place < 64) (value / 2 ^ place) → bit_and (unwrap_or shifted 0) 1 ≢ 1 → bit_at value place ≡ 0

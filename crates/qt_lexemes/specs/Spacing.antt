@@ -5,9 +5,9 @@
 -- on both sides of a binary operator, `=`, a compound assignment, `->`, `++`, `in` and `@`; before a `{` that ends its line;
 -- after a comma; after `if`, `while` and `for`; after a keyword or type that a name, number, text or keyword follows; after a
 -- name or a closing parenthesis that a name follows; between `}` and `else`.
-use Rattle.std.specs.Prelude.{Bool, true, false, ◌||◌}
-use Rattle.qt_print.specs.declared.role.Role.{Role}
-use Rattle.qt_print.specs.declared.role.Role.TheVariants.{Name, Integer, Decimal, Text, Constant, Keyword, Head, Else, In, Operator, Sign, Comma, Colon, Semicolon, Opening, ClosingParenthesis, ClosingBracket, ClosingBrace, BodyStart, BodyEnd}
+use Rattle.std.specs.Prelude.{ℕ, Bool, true, false, ◌||◌, if◌then◌else◌, List, [], ◌∷◌, Option, Some, None}
+use Rattle.qt_lexemes.specs.declared.role.Role.{Role}
+use Rattle.qt_lexemes.specs.declared.role.Role.TheVariants.{Name, Integer, Decimal, Text, Constant, Keyword, Head, Else, In, Operator, Sign, Comma, Colon, Semicolon, Opening, ClosingParenthesis, ClosingBracket, ClosingBrace, BodyStart, BodyEnd}
 
 -- a space on both sides
 abbrev pub is_spaced : Role → Bool
@@ -58,3 +58,8 @@ has_space_behind _ _ = false
 -- does the space stand between two neighbouring lexemes of a line?
 abbrev pub has_space : Role → Role → Bool
 has_space last following = is_spaced last || (is_spaced following || (is_body_start following || has_space_behind last following))
+
+-- what stands before a lexeme: nothing at the beginning of a line
+abbrev pub gap : Option Role → Role → List ℕ
+gap None following = []
+gap (Some last) following = if has_space last following then 32 ∷ [] else []

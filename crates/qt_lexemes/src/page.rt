@@ -1,70 +1,69 @@
 //! The page that lexemes are put on, one by one.
 
-ghost use Rattle.std.specs.Prelude.{◌≡◌, ◌++◌, OnOk};
+ghost use Rattle.std.specs.Prelude.{◌≡◌, ◌++◌, codes, IfOk, OnOk};
 ghost use Rattle.std.specs.String.{string_bytes};
-ghost use Rattle.qt_print.specs.Text as layout;
-ghost use Rattle.qt_print.specs.Lexemes as lexemes;
-ghost use Rattle.qt_print.specs.Page as sheets;
+ghost use Rattle.qt_lexemes.specs.Lexemes as lexemes;
+ghost use Rattle.qt_lexemes.specs.Page as sheets;
+ghost use Rattle.qt_lexemes.specs.Spacing as spacing;
 
 use crate::literal::{push_bits, push_number, push_quoted};
 use crate::role::{Role, has_space};
-use std::alloc::{AllocError, Global};
+use qt_outside::faults::OutOfMemory;
+use std::alloc::Global;
 
 /// A text as far as it is written, and the last lexeme of its last line.
 #[derive(Drop)]
-pub(crate) struct Page {
+pub struct Page {
+    alloc: Global,
     text: String,
     last: Option<Role>,
 }
 
-/// Two spaces for each body.
-fn push_margin(text: &mut String, depth: usize) -> Result<(), AllocError>
-    ensures { OnOk result (string_bytes text.new ≡ string_bytes text.old ++ layout.margin depth) }
-{
-    for outer in (0..depth).rev() {
-        text.push_str("  ")?;
-    }
-    Ok(())
-}
-
 /// What stands before a lexeme.
-fn push_gap(text: &mut String, last: Option<Role>, next: Role) -> Result<(), AllocError>
-    ensures { OnOk result (string_bytes text.new ≡ string_bytes text.old ++ layout.gap last next) }
+fn push_gap(text: &mut String, last: Option<Role>, next: Role) -> Result<(), OutOfMemory>
+    ensures { OnOk result (string_bytes text.new ≡ string_bytes text.old ++ spacing.gap last next) }
 {
     match last {
-        Some(last) => {
-            if has_space(last, next) {
-                text.push_str(" ")
-            } else {
-                Ok(())
-            }
+        Some(last) if has_space(last, next) => {
+            text.push_str(" ")?;
+            Ok(())
         }
-        None => Ok(()),
+        _ => Ok(()),
     }
 }
 
 impl Page {
     /// An empty page.
-    pub(crate) fn new(alloc: Global) -> Page
+    pub fn new(alloc: Global) -> Page
         ensures { sheets.sheet_of result ≡ sheets.blank }
     {
         Page {
+            alloc,
             text: String::new(alloc),
             last: None,
         }
     }
 
-    /// Begins a line that stands in so many bodies.
-    pub(crate) fn begin(&mut self, depth: usize) -> Result<(), AllocError>
-        ensures { OnOk result (sheets.sheet_of self.new ≡ sheets.begun (sheets.sheet_of self.old) depth) }
+    /// The margin of a body whose head stands behind this one: two spaces more.
+    pub fn deeper(&self, margin: &str) -> Result<String, OutOfMemory>
+        ensures { IfOk result (λ inner. string_bytes inner ≡ margin.now ++ codes "  ") }
     {
-        push_margin(&mut self.text, depth)?;
+        let mut inner = String::from_str(self.alloc, margin)?;
+        inner.push_str("  ")?;
+        Ok(inner)
+    }
+
+    /// Begins a line with its margin.
+    pub fn begin(&mut self, margin: &str) -> Result<(), OutOfMemory>
+        ensures { OnOk result (sheets.sheet_of self.new ≡ sheets.begun (sheets.sheet_of self.old) margin.now) }
+    {
+        self.text.push_str(margin)?;
         self.last = None;
         Ok(())
     }
 
     /// Puts one more lexeme on the line.
-    pub(crate) fn put(&mut self, role: Role, text: &str) -> Result<(), AllocError>
+    pub fn put(&mut self, role: Role, text: &str) -> Result<(), OutOfMemory>
         ensures { OnOk result (sheets.sheet_of self.new ≡ sheets.put_on (sheets.sheet_of self.old) (lexemes.lexeme role text.now)) }
     {
         push_gap(&mut self.text, self.last, role)?;
@@ -74,7 +73,7 @@ impl Page {
     }
 
     /// Puts a whole number on the line.
-    pub(crate) fn put_number(&mut self, value: u64) -> Result<(), AllocError>
+    pub fn put_number(&mut self, value: u64) -> Result<(), OutOfMemory>
         ensures { OnOk result (sheets.sheet_of self.new ≡ sheets.put_on (sheets.sheet_of self.old) (lexemes.integer value)) }
     {
         push_gap(&mut self.text, self.last, Role::Integer)?;
@@ -84,7 +83,7 @@ impl Page {
     }
 
     /// Puts a bit string of so many digits on the line.
-    pub(crate) fn put_bits(&mut self, value: u64, length: u8) -> Result<(), AllocError>
+    pub fn put_bits(&mut self, value: u64, length: u8) -> Result<(), OutOfMemory>
         ensures { OnOk result (sheets.sheet_of self.new ≡ sheets.put_on (sheets.sheet_of self.old) (lexemes.bits value length)) }
     {
         push_gap(&mut self.text, self.last, Role::Text)?;
@@ -94,7 +93,7 @@ impl Page {
     }
 
     /// Puts a text in quotes on the line.
-    pub(crate) fn put_quoted(&mut self, name: &str) -> Result<(), AllocError>
+    pub fn put_quoted(&mut self, name: &str) -> Result<(), OutOfMemory>
         ensures { OnOk result (sheets.sheet_of self.new ≡ sheets.put_on (sheets.sheet_of self.old) (lexemes.quotation name.now)) }
     {
         push_gap(&mut self.text, self.last, Role::Text)?;
@@ -104,7 +103,7 @@ impl Page {
     }
 
     /// Ends the line.
-    pub(crate) fn end(&mut self) -> Result<(), AllocError>
+    pub fn end(&mut self) -> Result<(), OutOfMemory>
         ensures { OnOk result (sheets.sheet_of self.new ≡ sheets.ended (sheets.sheet_of self.old)) }
     {
         self.text.push_str("\n")?;
@@ -113,7 +112,7 @@ impl Page {
     }
 
     /// What is written.
-    pub(crate) fn into_text(self) -> String
+    pub fn into_text(self) -> String
         ensures { string_bytes result ≡ (sheets.sheet_of self).text }
     {
         let Page { text, .. } = self;

@@ -2,9 +2,9 @@
 -- the tokens of the OpenQASM 3.0 live specification, "Comments", "Identifiers", "Literals" and its lexical grammar.
 use Rattle.std.specs.Prelude.{ℕ, List, [], ◌∷◌, ◌++◌, Option, Some, None, codes}
 use Rattle.std.specs.Fmt.{decimal}
-use Rattle.qt_print.specs.declared.role.Role.{Role}
-use Rattle.qt_print.specs.declared.role.Role.TheVariants as r
-use Rattle.qt_print.specs.Literals.{bit_text, quoted}
+use Rattle.qt_lexemes.specs.declared.role.Role.{Role}
+use Rattle.qt_lexemes.specs.declared.role.Role.TheVariants as r
+use Rattle.qt_lexemes.specs.Literals.{bit_text, quoted}
 
 -- a lexeme: what it is to its neighbours, and its bytes
 pub record Lexeme : Type 0 where

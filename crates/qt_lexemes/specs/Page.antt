@@ -1,0 +1,30 @@
+-- A page as far as it is written, for the contracts of what puts lexemes on it.
+use Rattle.std.specs.Prelude.{ℕ, List, [], ◌∷◌, ◌++◌, Option, Some, None}
+use Rattle.std.specs.String.{string_bytes}
+use Rattle.qt_lexemes.specs.declared.role.Role.{Role}
+use Rattle.qt_lexemes.specs.declared.page.Page.{Page}
+use Rattle.qt_lexemes.specs.Lexemes.{Lexeme}
+use Rattle.qt_lexemes.specs.Spacing.{gap}
+
+-- the text, and the last lexeme of the line that is being written
+pub record Sheet : Type 0 where
+  pub text : List ℕ
+  pub last : Option Role
+
+abbrev pub sheet_of : Page → Sheet
+sheet_of page = record { text = string_bytes page.text; last = page.last }
+
+abbrev pub blank : Sheet
+blank = record { text = []; last = None }
+
+-- one more lexeme stands on the line
+abbrev pub put_on : Sheet → Lexeme → Sheet
+put_on sheet lexeme = record { text = sheet.text ++ (gap sheet.last lexeme.role ++ lexeme.text); last = Some lexeme.role }
+
+-- a new line begins with its margin
+abbrev pub begun : Sheet → List ℕ → Sheet
+begun sheet margin = record { text = sheet.text ++ margin; last = None }
+
+-- the line ends
+abbrev pub ended : Sheet → Sheet
+ended sheet = record { text = sheet.text ++ 10 ∷ []; last = None }
