@@ -2,7 +2,7 @@
 use Rattle.std.specs.Prelude.{◌≡◌, ℕ, ◌≤◌, List, [], ◌∷◌, codes, length}
 use Rattle.qt_outside.specs.Causes.{Texts, text_of}
 use Rattle.qt_tree.specs.declared.program.Program.{Program}
-use Rattle.qt_wording.specs.Places.{SameButPlaces}
+use Rattle.qt_round_trip.specs.Places.{SameButPlaces}
 use Rattle.qt_print.specs.Text.{canonical}
 use Rattle.qt_read.specs.Reading.{IsTextOfProgram, most_bytes}
 use Rattle.qt_host.specs.Said.{Said, answered}

@@ -12,17 +12,17 @@ use Rattle.qt_grammar.specs.Promise.{SpellsProgram, Parses}
 use Rattle.qt_grammar.proofs.Theorems.{one_program, one_parse, spelled_is_parsed}
 use Rattle.qt_print.specs.Programs.{program_lines}
 use Rattle.qt_print.specs.Text.{canonical}
-use Rattle.qt_wording.specs.Faithful.{total_length}
-use Rattle.qt_wording.specs.Written.{lexemes_of}
-use Rattle.qt_wording.specs.Places.{SameButPlaces}
-use Rattle.qt_literals.proofs.Faithful.{all_tokens_faithful}
-use Rattle.qt_literals.proofs.Lengths.{within_the_text}
-use Rattle.qt_literals.proofs.Numbers.{numbers_again}
-use Rattle.qt_relex.proofs.Terminals.{give_their_lexemes}
-use Rattle.qt_relex.proofs.Counting.{count_operators}
-use Rattle.qt_reparse.proofs.Law.{reads_again}
-use Rattle.qt_reparse.proofs.Texts.{texts_have_bit_texts}
-use Rattle.qt_extent.proofs.Levels.{spelled as lexemes_spelled, short}
+use Rattle.qt_round_trip.proofs.literals.Kept.{total_length}
+use Rattle.qt_round_trip.proofs.lexemes.Written.{lexemes_of}
+use Rattle.qt_round_trip.specs.Places.{SameButPlaces}
+use Rattle.qt_round_trip.proofs.literals.Faithful.{all_tokens_faithful}
+use Rattle.qt_round_trip.proofs.literals.Lengths.{within_the_text}
+use Rattle.qt_round_trip.proofs.literals.Numbers.{numbers_again}
+use Rattle.qt_round_trip.proofs.relexing.Terminals.{give_their_lexemes}
+use Rattle.qt_round_trip.proofs.relexing.Counting.{count_operators}
+use Rattle.qt_round_trip.proofs.reparsing.Law.{reads_again}
+use Rattle.qt_round_trip.proofs.reparsing.Texts.{texts_have_bit_texts}
+use Rattle.qt_round_trip.proofs.extent.Levels.{spelled as lexemes_spelled, short}
 use Rattle.qt_round_trip.specs.Laws.{IsReadAgain, RoundTrip, LexesAgain, ParsesAgain, KeepsTheTree, IsBounded, CanBeRead}
 use Rattle.qt_round_trip.proofs.SameLines.{same_text}
 

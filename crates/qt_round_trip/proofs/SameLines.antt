@@ -9,12 +9,12 @@ use Rattle.qt_tree.specs.declared.program.Version.{Version}
 use Rattle.qt_tree.specs.declared.program.Item.{Item}
 use Rattle.qt_tree.specs.declared.program.Item.TheVariants as i
 use Rattle.qt_print.specs.Statements.{Line, block, two_blocks, condition_lexemes, for_lexemes, all_lines, form_step, form_lines, statement_lines}
-use Rattle.qt_print.specs.Programs.{gate_head, gate_statement_lines, definition_head, item_lines, first_lines, program_lines}
+use Rattle.qt_print.specs.Programs.{gate_head, gate_statement_lines, definition_head, version_lines, item_lines, program_lines}
 use Rattle.qt_print.specs.Text.{lines_text, canonical}
 use Rattle.qt_print.proofs.Forms.{lined, form_rolls}
 use Rattle.qt_print.proofs.Lines.{statement_is}
-use Rattle.qt_wording.specs.Places.{origin, bare_statement, bare_form, bare_gate_statement, bare_item, bare_version, bare, SameButPlaces}
-use Rattle.qt_wording.proofs.Bare.{bared, bare_rolls, bare_statement_is}
+use Rattle.qt_round_trip.specs.Places.{origin, bare_statement, bare_form, bare_gate_statement, bare_item, bare_version, bare, SameButPlaces}
+use Rattle.qt_round_trip.proofs.Bare.{bared, bare_rolls, bare_statement_is}
 
 abbrev KeptForm : StatementForm → Type 0
 KeptForm form = form_lines (bare_form form) ≡ form_lines form
@@ -63,14 +63,10 @@ bare_item_lines (i.Definition definition) = ap (block (definition_head definitio
 bare_item_lines (i.Statement statement) = bare_lines statement
 bare_item_lines _ = refl
 
-bare_first_lines : (version : Option Version) → first_lines (bare_version version) ≡ first_lines version
-bare_first_lines None = refl
-bare_first_lines (Some version) = refl
-
 bare_program_lines : (p : Program) → program_lines (bare p) ≡ program_lines p
 bare_program_lines p =
-    ap (λ t. t ++ all_lines (map item_lines (map bare_item p.items))) (bare_first_lines p.version)
-    ∙ ap (λ t. first_lines p.version ++ all_lines t) (all_kept item_lines bare_item bare_item_lines p.items)
+    ap (λ t. all_lines t ++ all_lines (map item_lines (map bare_item p.items))) (all_kept version_lines bare_version (λ x. refl) p.versions)
+    ∙ ap (λ t. all_lines (map version_lines p.versions) ++ all_lines t) (all_kept item_lines bare_item bare_item_lines p.items)
 
 pub same_lines : (p q : Program) → SameButPlaces p q → program_lines p ≡ program_lines q
 same_lines p q same = sym (bare_program_lines p) ∙ (ap program_lines same ∙ bare_program_lines q)

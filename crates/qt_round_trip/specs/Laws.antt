@@ -10,7 +10,7 @@ use Rattle.qt_grammar.specs.declared.refusal.Refusal.TheVariants.{OutOfMemory}
 use Rattle.qt_grammar.specs.Reading.{language_limits}
 use Rattle.qt_grammar.specs.Promise.{OnlyProgram, Parses}
 use Rattle.qt_print.specs.Text.{canonical}
-use Rattle.qt_wording.specs.Places.{SameButPlaces}
+use Rattle.qt_round_trip.specs.Places.{SameButPlaces}
 
 -- the text gives these tokens, and they spell this program within the limits, and no other
 pub record ReadsAs (text : List ℕ) (file : ℕ) (tokens : List Token) (p : Program) : Type 0 where

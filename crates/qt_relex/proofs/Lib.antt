@@ -1,7 +1,0 @@
-pub mod Agreeing
-pub mod Counting
-pub mod Following
-pub mod Longest
-pub mod Touching
-pub mod Lines
-pub mod Terminals

@@ -1,0 +1,11 @@
+pub mod Laws
+pub mod Costs
+pub mod Combinators
+pub mod Tokens
+pub mod Lists
+pub mod Bodies
+pub mod Expressions
+pub mod Operands
+pub mod Statements
+pub mod Items
+pub mod Levels

@@ -1,0 +1,9 @@
+pub mod Kept
+pub mod Laws
+pub mod Shifts
+pub mod Numbers
+pub mod Lengths
+pub mod Terminals
+pub mod Quotes
+pub mod Bits
+pub mod Faithful

@@ -1,4 +1,0 @@
-pub mod Tables
-pub mod Lists
-pub mod Lexemes
-pub mod Bare

@@ -1,4 +1,0 @@
-pub mod Spelling
-pub mod Faithful
-pub mod Written
-pub mod Places
