@@ -1,0 +1,135 @@
+//! Rows of expressions and of the forms that hold them.
+
+use crate::expressions::write_expr;
+use crate::reading::write_refusal;
+use qt_expr::expression::{
+    all_indexes, arguments, expression, expressions, in_parentheses, index, indexes, range, scalar,
+    set, size,
+};
+use qt_expr::nesting::Nesting;
+use qt_expr::one_token::{label, names};
+use qt_expr::parse_expr::parse_expr;
+use qt_expr::refusal::ParseRefusal;
+use qt_grammar::refusal::Refusal;
+use qt_lex::tokens::Token;
+use qt_terminals::stream::TokenStream;
+use std::alloc::{AllocError, Global};
+use std::str::SplitWhitespace;
+
+/// How deep a token may stand.
+const MOST_DEPTH: u32 = 64;
+
+fn usize_in(words: &mut SplitWhitespace) -> Option<usize> {
+    words.next()?.parse::<usize>().ok()
+}
+
+fn depth_in(words: &mut SplitWhitespace) -> Option<u32> {
+    words.next()?.parse::<u32>().ok()
+}
+
+/// `expr AT DEPTH: TEXT`: the number of the token behind the expression that begins at a token of that depth, and its tree; or the
+/// refusal.
+pub fn answer_expr(
+    alloc: Global,
+    words: &mut SplitWhitespace,
+    text: &str,
+    tokens: &[Token],
+    answer: &mut String,
+) -> Result<(), AllocError> {
+    let (Some(at), Some(depth)) = (usize_in(words), depth_in(words)) else {
+        return answer.push_str("no row");
+    };
+    if depth > MOST_DEPTH {
+        return answer.push_str("no row");
+    }
+    match parse_expr(alloc, text, tokens, at, depth) {
+        Ok((expr, behind)) => {
+            write!(answer, "{behind}")?;
+            write_expr(answer, &expr)
+        }
+        Err(refusal) => write_refusal(answer, refusal),
+    }
+}
+
+/// The number of the token behind an expression at the beginning.
+fn behind_expr(alloc: Global, text: &str, tokens: &[Token]) -> Result<usize, ParseRefusal> {
+    match parse_expr(alloc, text, tokens, 0, 0) {
+        Ok((_, behind)) => Ok(behind),
+        Err(refusal) => Err(refusal),
+    }
+}
+
+/// `beginnings: TEXT`: for each number of first tokens, how many of them an expression takes, or the refusal.
+pub fn answer_beginnings(
+    alloc: Global,
+    text: &str,
+    tokens: &[Token],
+    answer: &mut String,
+) -> Result<(), AllocError> {
+    for count in 0..tokens.len() {
+        match behind_expr(alloc, text, &tokens[..count]) {
+            Ok(behind) => write!(answer, " {behind}")?,
+            Err(refusal) => write_refusal(answer, refusal)?,
+        }
+        answer.push(';')?;
+    }
+    Ok(())
+}
+
+/// The number of the token behind what was read.
+fn behind_of<T: Drop>(found: Result<(T, usize), Refusal>) -> Result<usize, Refusal> {
+    match found {
+        Ok((_, behind)) => Ok(behind),
+        Err(refusal) => Err(refusal),
+    }
+}
+
+/// The number of the token behind the form of that name, or its refusal. No such form is refused at once.
+fn behind_form(
+    alloc: Global,
+    form: &str,
+    tokens: &TokenStream<'_>,
+    at: usize,
+) -> Result<usize, Refusal> {
+    let nesting = Nesting {
+        levels: 64,
+        outer: None,
+    };
+    match form {
+        "label" => behind_of(label(alloc, tokens, at)),
+        "names" => behind_of(names(alloc, tokens, at)),
+        "in_parentheses" => behind_of(in_parentheses(alloc, tokens, nesting, at)),
+        "size" => behind_of(size(alloc, tokens, nesting, at)),
+        "arguments" => behind_of(arguments(alloc, tokens, nesting, at)),
+        "scalar" => behind_of(scalar(alloc, tokens, nesting, at)),
+        "set" => behind_of(set(alloc, tokens, nesting, at)),
+        "indexes" => behind_of(indexes(alloc, tokens, nesting, at)),
+        "all_indexes" => behind_of(all_indexes(alloc, tokens, nesting, at)),
+        "expression" => behind_of(expression(alloc, tokens, nesting, at)),
+        "expressions" => behind_of(expressions(alloc, tokens, nesting, at)),
+        "index" => behind_of(index(alloc, tokens, nesting, at)),
+        "range" => behind_of(range(alloc, tokens, nesting, at)),
+        _ => Err(Refusal::Syntax(at)),
+    }
+}
+
+/// `form NAME AT: TEXT`: the number of the token behind a form that begins at a token, or the number of the token at fault.
+pub fn answer_form(
+    alloc: Global,
+    words: &mut SplitWhitespace,
+    text: &str,
+    tokens: &[Token],
+    answer: &mut String,
+) -> Result<(), AllocError> {
+    let (Some(form), Some(at)) = (words.next(), usize_in(words)) else {
+        return answer.push_str("no row");
+    };
+    let Ok(stream) = TokenStream::new(alloc, text, tokens) else {
+        return Err(AllocError);
+    };
+    match behind_form(alloc, form, &stream, at) {
+        Ok(behind) => write!(answer, "{behind}"),
+        Err(Refusal::OutOfMemory) => Err(AllocError),
+        Err(refusal) => write!(answer, "{refusal:?}"),
+    }
+}
