@@ -6,7 +6,7 @@ use Rattle.qt_grammar.specs.declared.refusal.Refusal.{Refusal}
 use Rattle.qt_grammar.specs.Sorts.{expr}
 use Rattle.qt_grammar.specs.Outcome.{Says}
 use Rattle.qt_grammar.specs.Language.{expression}
-use Rattle.qt_grammar.specs.Reading.{limits_at}
+use Rattle.qt_grammar.specs.Spelling.{limits_at}
 use Rattle.qt_grammar.specs.Promise.{Answers}
 use Rattle.qt_grammar.proofs.Parsers.{expression_answers}
 use Rattle.qt_expr.specs.Parser.{read_expression}

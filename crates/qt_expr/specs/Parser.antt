@@ -15,7 +15,8 @@ use Rattle.qt_grammar.specs.Form.{Form, operator, empty, as_tree, then_, maybe, 
 use Rattle.qt_grammar.specs.Lookahead.{first}
 use Rattle.qt_grammar.specs.Outcome.{Outcome}
 pub use Rattle.qt_grammar.specs.Outcome.{Says}
-use Rattle.qt_grammar.specs.Reading.{language_limits, run, run_to, rest_of}
+use Rattle.qt_grammar.specs.Spelling.{language_limits}
+use Rattle.qt_grammar.specs.Reading.{run, run_to, rest_of}
 use Rattle.qt_grammar.specs.Language as g
 
 -- the place behind a token, where the outcome is that token and that place

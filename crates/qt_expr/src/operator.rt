@@ -13,6 +13,7 @@ ghost use Rattle.qt_expr.specs.Parser.{cap};
 
 use crate::nesting::Nesting;
 use crate::one_token::behind;
+use qt_grammar::maximum::MOST_OPERATORS;
 use qt_grammar::refusal::Refusal;
 use qt_terminals::stream::TokenStream;
 use qt_terminals::terminal::Terminal;
@@ -22,9 +23,6 @@ use std::alloc::{AllocError, Global};
 
 /// How many strengths of binary operators there are below that of `**`.
 pub const STRENGTHS: usize = 10;
-
-/// How many operators an expression has at most that stands in no other.
-const MOST_OPERATORS: usize = 256;
 
 /// The binary operator of a strength that a terminal is, the weakest having strength 0.
 pub fn binary_operator(strength: usize, terminal: Terminal) -> Option<InfixOperator>

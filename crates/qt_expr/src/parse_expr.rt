@@ -2,19 +2,17 @@
 
 ghost use Rattle.std.specs.Prelude.{◌≤◌};
 ghost use Rattle.qt_terminals.specs.Terminals.{terminals};
-ghost use Rattle.qt_grammar.specs.Reading.{language_limits};
+ghost use Rattle.qt_grammar.specs.Spelling.{language_limits};
 ghost use Rattle.qt_expr.specs.Refusals.{AnswersExpression};
 
 use crate::expression::expression;
 use crate::nesting::Nesting;
 use crate::refusal::{ParseRefusal, located};
+use qt_grammar::maximum::MOST_LEVELS;
 use qt_lex::tokens::Token;
 use qt_terminals::stream::TokenStream;
 use qt_tree::expression::Expr;
 use std::alloc::Global;
-
-/// How many levels of nesting there are at most.
-const MOST_LEVELS: usize = 64;
 
 /// The expression that begins at a token, which has that depth, at most 64; the refusals are by place.
 fn expression_at(

@@ -10,8 +10,6 @@ use Rattle.qt_grammar.specs.Form.{Form}
 use Rattle.qt_grammar.specs.Outcome.{Outcome}
 use Rattle.qt_grammar.specs.Language.{whole}
 use Rattle.qt_grammar.specs.Spelling.{Limits}
--- passed on to those who look for them here
-pub use Rattle.qt_grammar.specs.Spelling.{Spells, Opens, SpellsAtAll, OpensAtAll, SpellsProgram}
 
 -- a form, read from a place on; `outer` is the number of operators before the outermost expression round that place
 module _ (ts : ℕ → PlacedTerminal) (s : Sort) (f : Form s) (outer : Option ℕ) (i : ℕ) where

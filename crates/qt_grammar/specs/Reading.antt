@@ -8,8 +8,6 @@ use Rattle.qt_grammar.specs.Sorts.{Sort, Value, Name, sort}
 use Rattle.qt_grammar.specs.Form.{Form, one, operator, counted, here, empty, as_tree, then_, either, maybe, nearest, chain, named, member, terminal_at, begun, within, pair_of, stepped}
 use Rattle.qt_grammar.specs.Outcome.{Outcome, and_then, more_of}
 use Rattle.qt_grammar.specs.Language.{rule}
--- passed on to those who look for them here
-pub use Rattle.qt_grammar.specs.Spelling.{ReadsTo, OpensTo, Limits, language_limits, limits_at}
 use Rattle.qt_grammar.specs.Lookahead.{nullable, joined, first_of, first}
 
 -- the rest of a chain: separators and operands, as long as the next token begins one

@@ -9,7 +9,7 @@ use Rattle.qt_terminals.specs.Terminals.{PlacedTerminal, stream, with_terminal}
 use Rattle.qt_grammar.specs.declared.refusal.Refusal.{Refusal}
 use Rattle.qt_grammar.specs.declared.refusal.Refusal.TheVariants as r
 use Rattle.qt_grammar.specs.Outcome.{Tells}
-use Rattle.qt_grammar.specs.Reading.{language_limits}
+use Rattle.qt_grammar.specs.Spelling.{language_limits}
 use Rattle.qt_grammar.specs.Promise.{Parses, OnlyProgram, CouldBegin}
 use Rattle.qt_grammar.proofs.Parsers.{program_parses, barrier_begins, barrier_refused}
 use Rattle.qt_expr.specs.declared.refusal.ParseRefusal.TheVariants.{Syntax, NotInProfile}

@@ -9,7 +9,7 @@ use Rattle.qt_terminals.specs.Alphabet.{feature_of}
 use Rattle.qt_terminals.specs.Terminals.{PlacedTerminal, stream}
 use Rattle.qt_grammar.specs.Sorts.{program}
 use Rattle.qt_grammar.specs.Language.{whole}
-use Rattle.qt_grammar.specs.Reading.{language_limits}
+use Rattle.qt_grammar.specs.Spelling.{language_limits}
 use Rattle.qt_grammar.specs.Promise.{NoProgram, FirstTooDeep, CouldBegin}
 use Rattle.qt_expr.specs.declared.refusal.ParseRefusal.{ParseRefusal}
 use Rattle.qt_expr.specs.declared.refusal.ParseRefusal.TheVariants.{Syntax, Nest, NotInProfile, OutOfMemory}

@@ -5,7 +5,7 @@ ghost use Rattle.qt_terminals.specs.declared.terminal.Terminal.TheVariants as w;
 ghost use Rattle.qt_terminals.specs.Terminals.{stream, terminals};
 ghost use Rattle.qt_grammar.specs.declared.refusal.Refusal.TheVariants.{Syntax};
 ghost use Rattle.qt_grammar.specs.Promise.{OnlyProgram, CouldBegin};
-ghost use Rattle.qt_grammar.specs.Reading.{language_limits};
+ghost use Rattle.qt_grammar.specs.Spelling.{language_limits};
 ghost use Rattle.qt_parse.specs.Parser.{read_whole};
 ghost use Rattle.qt_parse.specs.Promise.{Refused};
 

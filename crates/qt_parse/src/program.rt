@@ -4,7 +4,7 @@ ghost use Rattle.std.specs.Prelude.{◌≡◌, length, None};
 ghost use Rattle.qt_grammar.specs.Sorts.{item};
 ghost use Rattle.qt_grammar.specs.Language as g;
 ghost use Rattle.qt_grammar.specs.Outcome.{Says, Tells};
-ghost use Rattle.qt_grammar.specs.Reading.{language_limits};
+ghost use Rattle.qt_grammar.specs.Spelling.{language_limits};
 ghost use Rattle.qt_expr.specs.Parser.{rest_some};
 ghost use Rattle.qt_parse.specs.Parser.{read_statement_item, read_global, read_items, read_version_number, read_version, read_any_version, read_whole};
 
@@ -14,6 +14,7 @@ use crate::definitions::{definition, gate_item};
 use crate::items::{include, input, output, qubit_item, register_item};
 use crate::lookahead::begins_item;
 use qt_expr::one_token::{exactly, next_is};
+use qt_grammar::maximum::MOST_LEVELS;
 use qt_grammar::refusal::Refusal;
 use qt_terminals::stream::TokenStream;
 use qt_terminals::terminal::Terminal;
@@ -155,16 +156,13 @@ fn any_version(
     Ok((Some(version), at))
 }
 
-/// How deep tokens may stand.
-const LEVELS: usize = 64;
-
 /// `program = [ version ] { global }`, and then the end of the text.
 #[tactic(auto, unfolding(crate::specs::Parser::read_whole, crate::specs::Parser::read_items, crate::specs::Parser::read_any_version))]
 pub fn whole(alloc: Global, tokens: &TokenStream<'_>) -> Result<Program, Refusal>
     ensures { Tells (read_whole tokens.now language_limits.levels 0) result }
 {
     let (version, at) = any_version(alloc, tokens, 0)?;
-    let (items, at) = items(alloc, tokens, LEVELS, at)?;
+    let (items, at) = items(alloc, tokens, MOST_LEVELS, at)?;
     if !next_is(tokens, at, Terminal::End) {
         return Err(Refusal::Syntax(at));
     }

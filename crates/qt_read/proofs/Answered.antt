@@ -14,7 +14,7 @@ use Rattle.qt_grammar.specs.declared.refusal.Refusal.TheVariants.{Syntax, Nest, 
 use Rattle.qt_grammar.specs.Sorts.{Value, program}
 use Rattle.qt_grammar.specs.Outcome.{Outcome}
 use Rattle.qt_grammar.specs.Language.{whole}
-use Rattle.qt_grammar.specs.Reading.{language_limits}
+use Rattle.qt_grammar.specs.Spelling.{language_limits}
 use Rattle.qt_grammar.specs.Promise.{OnlyProgram, CouldBegin}
 use Rattle.qt_grammar.proofs.Lists.{reading}
 use Rattle.qt_grammar.proofs.Tables.{tested_whole}

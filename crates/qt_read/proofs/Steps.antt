@@ -5,7 +5,7 @@ use Rattle.qt_tree.specs.declared.program.Program.{Program}
 use Rattle.qt_lex.specs.declared.tokens.Token.{Token}
 use Rattle.qt_lex.specs.Tokens.{GivesTokens}
 use Rattle.qt_terminals.specs.Terminals.{terminals, stream}
-use Rattle.qt_grammar.specs.Reading.{language_limits}
+use Rattle.qt_grammar.specs.Spelling.{language_limits}
 use Rattle.qt_grammar.specs.Promise.{OnlyProgram}
 use Rattle.qt_expr.specs.declared.refusal.ParseRefusal.{ParseRefusal}
 use Rattle.qt_expr.specs.declared.refusal.ParseRefusal.TheVariants as p

@@ -11,7 +11,7 @@ use Rattle.qt_terminals.specs.Alphabet.{feature_of}
 use Rattle.qt_terminals.specs.Terminals.{PlacedTerminal, terminals, stream}
 use Rattle.qt_grammar.specs.declared.refusal.Refusal.{Refusal}
 use Rattle.qt_grammar.specs.declared.refusal.Refusal.TheVariants.{Syntax, Nest, OutOfMemory}
-use Rattle.qt_grammar.specs.Reading.{language_limits}
+use Rattle.qt_grammar.specs.Spelling.{language_limits}
 use Rattle.qt_grammar.specs.Promise.{OnlyProgram, Parses}
 use Rattle.qt_grammar.proofs.Theorems.{one_parse}
 use Rattle.qt_expr.specs.declared.refusal.ParseRefusal.{ParseRefusal}

@@ -7,8 +7,8 @@ use Rattle.qt_lex.specs.Bytes.{byte}
 use Rattle.qt_lex.specs.Tokens.{GivesTokens}
 use Rattle.qt_lex.proofs.Exact.{tokens_one, tokens_or_fault}
 use Rattle.qt_terminals.specs.Terminals.{terminals, stream}
-use Rattle.qt_grammar.specs.Reading.{language_limits}
-use Rattle.qt_grammar.specs.Promise.{SpellsProgram, Parses}
+use Rattle.qt_grammar.specs.Spelling.{language_limits, SpellsProgram}
+use Rattle.qt_grammar.specs.Promise.{Parses}
 use Rattle.qt_grammar.proofs.Theorems.{one_program, one_parse, spelled_is_parsed}
 use Rattle.qt_print.specs.Programs.{program_lines}
 use Rattle.qt_print.specs.Text.{canonical}

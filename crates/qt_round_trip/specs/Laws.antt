@@ -7,7 +7,7 @@ use Rattle.qt_lex.specs.Tokens.{GivesTokens, FailsAt}
 use Rattle.qt_terminals.specs.Terminals.{terminals, stream}
 use Rattle.qt_grammar.specs.declared.refusal.Refusal.{Refusal}
 use Rattle.qt_grammar.specs.declared.refusal.Refusal.TheVariants.{OutOfMemory}
-use Rattle.qt_grammar.specs.Reading.{language_limits}
+use Rattle.qt_grammar.specs.Spelling.{language_limits}
 use Rattle.qt_grammar.specs.Promise.{OnlyProgram, Parses}
 use Rattle.qt_print.specs.Text.{canonical}
 use Rattle.qt_round_trip.specs.Places.{SameButPlaces}

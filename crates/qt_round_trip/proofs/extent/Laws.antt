@@ -2,8 +2,7 @@
 use Rattle.std.specs.Prelude.{ℕ, ◌*◌, ◌≤◌, length}
 use Rattle.qt_tree.specs.declared.program.Program.{Program}
 use Rattle.qt_terminals.specs.Terminals.{PlacedTerminal}
-use Rattle.qt_grammar.specs.Reading.{Limits}
-use Rattle.qt_grammar.specs.Promise.{SpellsProgram}
+use Rattle.qt_grammar.specs.Spelling.{Limits, SpellsProgram}
 use Rattle.qt_print.specs.Programs.{program_lines}
 use Rattle.qt_print.specs.Text.{canonical}
 use Rattle.qt_round_trip.proofs.lexemes.Spelling.{IsSpelled, AllLines}

@@ -5,8 +5,7 @@ use Rattle.qt_terminals.specs.Terminals.{PlacedTerminal}
 use Rattle.qt_grammar.specs.Sorts.{Value, Name, sort, program, any, unary, block, single, an_index, a_range, a_set, an_entry, in_sizeof, in_array, parameters, gate_block}
 use Rattle.qt_grammar.specs.Form.{named}
 use Rattle.qt_grammar.specs.Language.{rule, whole}
-use Rattle.qt_grammar.specs.Reading.{ReadsTo}
-use Rattle.qt_grammar.specs.Promise.{Spells}
+use Rattle.qt_grammar.specs.Spelling.{ReadsTo, Spells}
 use Rattle.qt_lexemes.specs.Lexemes.{comma}
 use Rattle.qt_print.specs.Programs.{program_lines}
 use Rattle.qt_round_trip.proofs.literals.Kept.{IsFaithful, AreNumbersAgain, total_length}

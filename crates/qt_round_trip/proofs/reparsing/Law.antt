@@ -9,7 +9,7 @@ use Rattle.qt_terminals.specs.Alphabet.{code}
 use Rattle.qt_terminals.specs.Terminals.{PlacedTerminal}
 use Rattle.qt_grammar.specs.Form.{maybe, member, Reading, ReadsOne, ReadsThen}
 use Rattle.qt_grammar.specs.Language.{version_form, versions_of}
-use Rattle.qt_grammar.specs.Reading.{ReadsTo}
+use Rattle.qt_grammar.specs.Spelling.{ReadsTo}
 use Rattle.qt_print.specs.Statements.{Line, all_lines}
 use Rattle.qt_print.specs.Programs.{version_lines, item_lines, program_lines}
 use Rattle.qt_round_trip.specs.Places.{origin, bare_item, bare_version, SameButPlaces}

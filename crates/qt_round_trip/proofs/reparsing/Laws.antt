@@ -5,8 +5,7 @@ use Rattle.qt_tree.specs.declared.program.Program.{Program}
 use Rattle.qt_terminals.specs.declared.terminal.Terminal.TheVariants as w
 use Rattle.qt_terminals.specs.Literals.{is_bit_text}
 use Rattle.qt_terminals.specs.Terminals.{PlacedTerminal, terminals, stream}
-use Rattle.qt_grammar.specs.Reading.{Limits}
-use Rattle.qt_grammar.specs.Promise.{SpellsProgram}
+use Rattle.qt_grammar.specs.Spelling.{Limits, SpellsProgram}
 use Rattle.qt_print.specs.Programs.{program_lines}
 use Rattle.qt_round_trip.proofs.literals.Kept.{IsFaithful, AreNumbersAgain}
 use Rattle.qt_round_trip.specs.Places.{SameButPlaces}

@@ -1,6 +1,6 @@
 -- What is known of the forms with names, by induction on the number of levels.
 use Rattle.std.proofs.Common.{ℕ, zero, suc}
-use Rattle.qt_grammar.specs.Reading.{ReadsTo}
+use Rattle.qt_grammar.specs.Spelling.{ReadsTo}
 use Rattle.qt_round_trip.proofs.reparsing.Streams.{Streams}
 use Rattle.qt_round_trip.proofs.reparsing.Setting.{Setting, Names}
 use Rattle.qt_round_trip.proofs.reparsing.Expressions.{factor-again, expression-again, expressions-again}

@@ -1,6 +1,6 @@
 use Rattle.std.proofs.Common.{◌≡◌, sym, subst}
 use Rattle.qt_terminals.specs.Terminals.{stream, terminals}
-use Rattle.qt_grammar.specs.Reading.{language_limits}
+use Rattle.qt_grammar.specs.Spelling.{language_limits}
 use Rattle.qt_grammar.specs.Promise.{OnlyProgram}
 use Rattle.qt_parse.proofs.Promises.{found}
 use Rattle.qt_parse.proofs.parser.parse.Goals as goal
