@@ -3,4 +3,3 @@ pub mod Sizes
 pub mod Rows
 pub mod Plain
 pub mod Weighed
-pub mod Masses

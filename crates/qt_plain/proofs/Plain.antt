@@ -13,7 +13,8 @@ use Rattle.qt_ring.specs.Gates.{h_gate, x_gate, t_gate, cx_gate}
 use Rattle.qt_ring.proofs.Norms.{norm-nil, total_a-nonneg}
 use Rattle.qt_ring.proofs.Gates.{applied_has_all}
 use Rattle.qt_ring.proofs.Totals.{Scales, h_scales, x_scales, t_scales, cx_scales, project_totals, project_has_all}
-use Rattle.qt_plain.specs.Mass.{IsPlain}
+use Rattle.qt_mass.proofs.Masses.{total_a-zero_state, all_entries_zero_state}
+use Rattle.qt_plain.specs.Plain.{IsPlain}
 use Rattle.qt_plain.specs.declared.gates.Gate.{Gate}
 use Rattle.qt_plain.specs.declared.gates.Gate.TheVariants.{Hadamard, X, T, ControlledX}
 use Rattle.qt_plain.specs.Operators.{operator_of, qubits_of, product_with, Suits}
@@ -28,26 +29,6 @@ four_below h l = let p : 0 < 4 = omega arith in pow-le-pow_right p l
 
 -- ---- all zeros
 
-total_a_replicate : (k : ℕ) → total_a (replicate k nil) ≡ pos 0
-total_a_replicate zero = refl
-total_a_replicate (suc k) = let e = norm-nil.0 in let t : total_a (replicate k nil) ≡ pos 0 = total_a_replicate k in omega (arith, ints, e)
-
-total_b_replicate : (k : ℕ) → total_b (replicate k nil) ≡ pos 0
-total_b_replicate zero = refl
-total_b_replicate (suc k) = let e = norm-nil.1 in let t : total_b (replicate k nil) ≡ pos 0 = total_b_replicate k in omega (arith, ints, e)
-
-pub total_a-zero_state : (n : ℕ) → total_a (zero_state n).entries ≡ pos 1
-unfolding zero_state one
-total_a-zero_state n = ap (λ z. pos 1 +ℤ z) (total_a_replicate (2 ^ n - 1))
-
-pub total_b-zero_state : (n : ℕ) → total_b (zero_state n).entries ≡ pos 0
-unfolding zero_state one
-total_b-zero_state n = ap (λ z. pos 0 +ℤ z) (total_b_replicate (2 ^ n - 1))
-
-pub all_entries_zero_state : (n : ℕ) → HasAllEntries (zero_state n)
-unfolding zero_state
-all_entries_zero_state n = let p : 0 < 2 ^ n = pow_pos n in let l : length (replicate (2 ^ n - 1) nil) ≡ 2 ^ n - 1 = length-replicate (2 ^ n - 1) nil in omega arith
-
 pub zero_plain : (n : ℕ) → n ≤ 4 → IsPlain (zero_state n)
 unfolding zero_state
 zero_plain n l = record {
@@ -58,9 +39,6 @@ zero_plain n l = record {
 }
 
 -- ---- gates
-
-pub all_entries_applied : (g : Operator) (qs : List ℕ) (s : State) → HasAllEntries (applied g qs s)
-all_entries_applied g qs s = applied_has_all g qs s
 
 pub plain_bounded : (s : State) → IsPlain s → total_a s.entries ≤ℤ pos (4 ^ 32)
 plain_bounded s p = let f : 4 ^ s.halvings ≤ 4 ^ 32 = four_below s.halvings p.few_halvings in let b = p.bounded in omega (arith, ints, b)
@@ -124,9 +102,6 @@ after_is g s new h e f =
 pub projected_is : (q : ℕ) (b : Bool) (s : State) (new : List Omega) → (let r : State = record { qubits = s.qubits; entries = s.entries; halvings = 0 } in new ≡ (project q b r).entries) → (let t : State = record { qubits = s.qubits; entries = new; halvings = s.halvings } in t ≡ project q b s)
 unfolding project
 projected_is q b s new e = ap (λ (es : List Omega). record { qubits = s.qubits; entries = es; halvings = s.halvings }) e
-
-pub all_entries_project : (q : ℕ) (b : Bool) (s : State) → HasAllEntries (project q b s)
-all_entries_project q b s = project_has_all q b s
 
 project_below : (q : ℕ) (b : Bool) (s : State) → q < s.qubits → HasAllEntries s → total_a (project q b s).entries ≤ℤ total_a s.entries
 project_below q true s h e = let t = (project_totals s q h e).0 in let z = total_a-nonneg (project q false s).entries in omega (arith, ints, t, z)

@@ -15,7 +15,8 @@ use Rattle.qt_root2.specs.Numerators.{mass_numerator}
 use Rattle.qt_root2.specs.declared.mass.Mass.{Mass}
 use Rattle.qt_integers.proofs.Integers.{distrib_left}
 use Rattle.qt_root2.proofs.Reals.{least_lifted}
-use Rattle.qt_plain.specs.Mass.{mass, IsPlain}
+use Rattle.qt_mass.specs.Mass.{mass}
+use Rattle.qt_plain.specs.Plain.{IsPlain}
 
 -- ---- the weight
 

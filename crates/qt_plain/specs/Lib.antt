@@ -1,3 +1,3 @@
-pub mod Mass
 pub mod Operators
+pub mod Plain
 pub mod Vectors

@@ -5,11 +5,9 @@
 //! scaled and never reduced. Each call answers exactly the state of the definition: `hadamard`, `x`, `t` and `controlled_x`
 //! the full product of the gate's matrix, `projected` what is left after an outcome, and `mass` its probability. No call is
 //! ever refused but for want of memory: gates are unitary, so that after at most 32 halvings no entry is larger than 2^32.
-//! `proofs/Masses` has the laws of masses for the meaning of programs, which is the caller.
+//! What the mass of a state is, and its laws, stand in `qt_mass`. The run of programs is the caller.
 #![tactic(auto)]
 
 mod gates;
 mod measure;
-#[cfg(test)]
-mod tests;
 pub mod vector;

@@ -3,7 +3,8 @@ ghost use Rattle.qt_ring.specs.Places.{AreQubits};
 ghost use Rattle.qt_ring.specs.Gates.{h_gate, x_gate, t_gate, cx_gate};
 ghost use Rattle.qt_ring.specs.State.{zero_state, applied, project, vanishes};
 ghost use Rattle.qt_root2.specs.Masses.{real_of_mass};
-ghost use Rattle.qt_plain.specs.Mass.{mass, IsPlain};
+ghost use Rattle.qt_mass.specs.Mass.{mass};
+ghost use Rattle.qt_plain.specs.Plain.{IsPlain};
 ghost use Rattle.qt_plain.specs.Operators.{operator_of, qubits_of};
 
 use crate::gates::{self, Gate};

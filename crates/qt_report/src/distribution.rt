@@ -1,37 +1,9 @@
 ghost use Rattle.std.specs.Prelude.{◌≡◌};
 
 use crate::register::Register;
+use qt_output::Output;
 use qt_root2::mass::Reduced;
 use std::marker::Model;
-
-/// The values of the output variables of one outcome, one for each register of the layout.
-#[derive(Debug, Drop)]
-pub struct Output {
-    values: Vec<u64>,
-}
-
-impl Model for Output {
-    ghost use Rattle.std.specs.Prelude.{List, ℕ};
-
-    ghost Value = { List ℕ };
-
-    ghost view = { λ o. o.values.items };
-}
-
-impl Output {
-    /// Takes the list over.
-    pub fn from_vec(values: Vec<u64>) -> Self
-        ensures { result ≡ values.items }
-    {
-        Output { values }
-    }
-
-    pub fn values(&self) -> &[u64]
-        ensures { result.now ≡ self.now }
-    {
-        self.values.as_slice()
-    }
-}
 
 /// An output value and its probability.
 #[derive(Debug, Drop)]

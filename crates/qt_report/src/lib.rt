@@ -11,9 +11,7 @@ pub mod distribution;
 pub mod laws;
 pub mod register;
 pub mod report;
-#[cfg(test)]
-mod tests;
 
-pub use distribution::{Chance, Distribution, Output};
+pub use distribution::{Chance, Distribution};
 pub use register::Register;
 pub use report::{fraction_text, text_report};

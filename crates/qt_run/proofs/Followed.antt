@@ -12,7 +12,7 @@ use Rattle.qt_root2.specs.declared.mass.Mass.{Mass}
 use Rattle.qt_root2.specs.Masses.{real_of_mass}
 use Rattle.qt_root2.specs.Real.{Real, plus_real}
 use Rattle.qt_root2.proofs.Reals.{plus_real_assoc, plus_real-zero, zero_real-plus}
-use Rattle.qt_plain.specs.Mass.{mass}
+use Rattle.qt_mass.specs.Mass.{mass}
 use Rattle.qt_first.specs.Form.{ArePlaced, IsPlaced, IsWithinLimits, measurements}
 use Rattle.qt_first.specs.declared.program.Program.{Program}
 use Rattle.qt_first.specs.declared.program.Statement.{Statement}

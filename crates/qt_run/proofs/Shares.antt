@@ -3,7 +3,7 @@ use Rattle.std.proofs.Common.{◌≡◌, ℕ, ◌+◌, Bool, true, false, cond, 
 use Rattle.qt_root2.specs.Real.{Real, zero_real, plus_real}
 use Rattle.qt_root2.proofs.Reals.{IsLeast, zero_real_is_least, plus_real_is_least, plus_real_comm, plus_real_assoc, plus_real-zero, zero_real-plus, least_is_least}
 use Rattle.qt_ring.specs.State.{total_a, total_b}
-use Rattle.qt_plain.specs.Mass.{mass}
+use Rattle.qt_mass.specs.Mass.{mass}
 use Rattle.qt_run.specs.Tree.{Point}
 use Rattle.qt_run.specs.Distribution.{same_values, part, share}
 use Rattle.qt_run.proofs.Values.{same_values_refl, same_values_eq}

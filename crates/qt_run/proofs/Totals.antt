@@ -6,8 +6,8 @@ use Rattle.qt_ring.specs.Matrix.{Operator}
 use Rattle.qt_ring.specs.Gates.{h_gate, t_gate, x_gate, cx_gate}
 use Rattle.qt_root2.specs.Real.{one_real, plus_real}
 use Rattle.qt_root2.proofs.Reals.{plus_real_assoc, plus_real-zero, zero_real-plus}
-use Rattle.qt_plain.specs.Mass.{mass}
-use Rattle.qt_plain.proofs.Masses.{all_entries_applied, all_entries_project, all_entries_zero_state, mass_applied_cx, mass_applied_h, mass_applied_t, mass_applied_x, mass_zero_state, project_masses, vanishing_mass}
+use Rattle.qt_mass.specs.Mass.{mass}
+use Rattle.qt_mass.proofs.Masses.{all_entries_applied, all_entries_project, all_entries_zero_state, mass_applied_cx, mass_applied_h, mass_applied_t, mass_applied_x, mass_zero_state, project_masses, vanishing_mass}
 use Rattle.qt_first.specs.declared.program.Statement.{Statement}
 use Rattle.qt_first.specs.declared.program.Statement.TheVariants.{Hadamard, T, X, ControlledX, Measure}
 use Rattle.qt_first.specs.declared.program.Program.{Program}

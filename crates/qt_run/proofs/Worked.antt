@@ -3,7 +3,7 @@ use Rattle.std.proofs.Common.{◌≡◌, ℕ, List, [], ◌∷◌, refl, pos, ne
 use Rattle.qt_ring.specs.Ring.{nil, one, the_omega, imaginary, plus, minus, times}
 use Rattle.qt_ring.specs.State.{zero_state, applied, project, vanishes}
 use Rattle.qt_root2.specs.Real.{Real, zero_real, plus_real}
-use Rattle.qt_plain.specs.Mass.{mass}
+use Rattle.qt_mass.specs.Mass.{mass}
 use Rattle.qt_first.specs.declared.program.Statement.{Statement}
 use Rattle.qt_first.specs.declared.program.Statement.TheVariants.{Hadamard, T, X, ControlledX, Measure}
 use Rattle.qt_run.specs.Tree.{leaves_of}

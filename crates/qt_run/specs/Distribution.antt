@@ -3,7 +3,7 @@
 use Rattle.std.specs.Prelude.{◌≡◌, ◌≢◌, ℕ, ◌<◌, ◌⊎◌, Bool, true, false, nat_eq, ◌&&◌, List, [], ◌∷◌, map, Contains, All, codes}
 use Rattle.qt_root2.specs.Real.{Real, zero_real, one_real, plus_real}
 use Rattle.qt_root2.specs.Masses.{real_of_reduced}
-use Rattle.qt_plain.specs.Mass.{mass}
+use Rattle.qt_mass.specs.Mass.{mass}
 use Rattle.qt_first.specs.declared.program.Program.{Program}
 use Rattle.qt_report.specs.declared.distribution.Chance.{Chance}
 use Rattle.qt_report.specs.Outcomes.{BitRegister}

@@ -14,7 +14,5 @@ mod point;
 mod simulation;
 mod slots;
 mod tally;
-#[cfg(test)]
-mod tests;
 
 pub use simulation::run;

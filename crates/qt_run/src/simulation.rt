@@ -54,7 +54,7 @@ fn follow(
         numerators tally.new ≤ numerators tally.old + 2 ^ 96 * 2 ^ measurements statements.now) }
 {
     let [statement, rest @ ..] = statements else {
-        return tally.add(point.slots.copied(alloc)?, point.state.mass());
+        return tally.add(point.slots.output(alloc)?, point.state.mass());
     };
     match *statement {
         Statement::Measure { qubit, bit } => {

@@ -1,15 +1,8 @@
 ghost use Rattle.std.specs.Prelude.{◌≡◌, ◌<◌, [], ◌∷◌, IfOk};
-ghost use Rattle.std.proofs.Common.{rules};
-ghost use Rattle.std.specs.Cmp.{partial_order_from_own_ties};
-ghost use Rattle.std.specs.Cmp.Lexicographic.{slice_cmp};
-ghost use Rattle.std.specs.Cmp.Rules.{comparing};
-ghost use Rattle.std.specs.Ordering.{as_partial_cmp, nat_cmp};
-ghost use Rattle.std.specs.Prelude.{nat_eq};
-ghost use lib.Pointwise.{pointwise};
 ghost use Rattle.qt_run.specs.Tree.{stored, with_bit};
 
+use qt_output::Output;
 use std::alloc::{AllocError, Global};
-use std::cmp::Ordering;
 use std::marker::Model;
 
 /// The values of the classical slots: the register `c` is slot 0.
@@ -24,44 +17,6 @@ impl Model for Slots {
     ghost Value = { List ℕ };
 
     ghost view = { λ s. s.values.items };
-}
-
-impl PartialEq for Slots {
-    ghost eq = { pointwise nat_eq };
-
-    ghost laws = { Prim.search (comparing, rules) };
-
-    fn eq(&self, other: &Slots) -> bool {
-        self.values == other.values
-    }
-}
-
-impl Eq for Slots {
-    ghost laws = { Prim.search (comparing, rules) };
-}
-
-impl PartialOrd for Slots {
-    ghost partial_cmp = { as_partial_cmp (slice_cmp nat_cmp) };
-
-    ghost laws = { partial_order_from_own_ties (Prim.search (comparing, rules)) (Prim.search (comparing, rules)) };
-
-    fn partial_cmp(&self, other: &Slots) -> Option<Ordering> {
-        Some(self.cmp(other))
-    }
-}
-
-impl Ord for Slots {
-    ghost cmp = { slice_cmp nat_cmp };
-
-    ghost total = { Prim.search (comparing, rules) };
-
-    ghost matches_partial_cmp = { Prim.search (comparing, rules) };
-
-    ghost matches_eq = { Prim.search (comparing, rules) };
-
-    fn cmp(&self, other: &Slots) -> Ordering {
-        self.values.cmp(&other.values)
-    }
 }
 
 impl Slots {
@@ -81,10 +36,11 @@ impl Slots {
         Ok(Slots { values })
     }
 
-    pub fn into_values(self) -> Vec<u64>
-        ensures { result.items ≡ self }
+    /// The output value of a leaf with these slots.
+    pub fn output(&self, alloc: Global) -> Result<Output, AllocError>
+        ensures { IfOk result (λ output. output ≡ self.now) }
     {
-        self.values
+        Ok(Output::from_vec(self.values.as_slice().to_vec(alloc)?))
     }
 
     /// The slots with an outcome stored at a bit of the first.

@@ -4,8 +4,8 @@ ghost use Rattle.qt_run.specs.Distribution.{IsDistribution};
 ghost use Rattle.qt_run.specs.Tally.{AddsAt, HoldsShares, held, numerators, real_number, whole_part, whole_part_held};
 ghost use Rattle.qt_run.specs.Tree.{Point};
 
-use crate::slots::Slots;
-use qt_report::{Chance, Distribution, Output, Register};
+use qt_output::Output;
+use qt_report::{Chance, Distribution, Register};
 use qt_root2::mass::Mass;
 use std::alloc::{AllocError, Global};
 use std::collections::BTreeMap;
@@ -14,7 +14,7 @@ use std::marker::Model;
 /// The masses of the leaves so far, by output value.
 #[derive(Drop)]
 pub struct Tally {
-    masses: BTreeMap<Slots, Mass>,
+    masses: BTreeMap<Output, Mass>,
 }
 
 impl Model for Tally {
@@ -39,7 +39,7 @@ impl Tally {
     }
 
     /// Adds the mass of a leaf at its output value. After an error the masses are as before.
-    pub fn add(&mut self, output: Slots, mass: Mass) -> Result<(), AllocError>
+    pub fn add(&mut self, output: Output, mass: Mass) -> Result<(), AllocError>
         requires { numerators self.old + whole_part mass ≤ 2 ^ 126 }
         ensures added { OnOk result (AddsAt self.old self.new output (real_number mass)) }
         ensures sum { OnOk result (numerators self.new ≡ numerators self.old + whole_part mass) }
@@ -51,7 +51,7 @@ impl Tally {
     }
 
     // what the output value holds, with one more mass
-    fn sum(&self, output: &Slots, mass: Mass) -> Mass
+    fn sum(&self, output: &Output, mass: Mass) -> Mass
         requires { numerators self.now + whole_part mass ≤ 2 ^ 126 }
         ensures real { real_number result ≡ plus_real (held self.now output.now) (real_number mass) }
         ensures whole { whole_part result ≡ whole_part_held self.now output.now + whole_part mass }
@@ -75,7 +75,6 @@ impl Tally {
         let mut total = Mass::zero();
         for (output, mass) in self.masses {
             if !mass.is_zero() {
-                let output = Output::from_vec(output.into_values());
                 let of = mass.reduced();
                 chances.push(Chance { output, of })?;
                 total = total.plus(mass);

@@ -4,7 +4,7 @@ use Rattle.std.specs.List.{flat_map}
 use Rattle.std.specs.Option.{option_to_list}
 use Rattle.std.proofs.lemmas.Result.{IfOk-weaker}
 use Rattle.qt_first.specs.Form.{ArePlaced, measurements}
-use Rattle.qt_plain.specs.Mass.{mass}
+use Rattle.qt_mass.specs.Mass.{mass}
 use Rattle.qt_first.specs.declared.program.Statement.{Statement}
 use Rattle.qt_first.specs.declared.program.Statement.TheVariants.{Hadamard, Measure}
 use Rattle.qt_run.specs.Tree.{IsGate, Point, leaves, outcome}
@@ -15,8 +15,8 @@ use Rattle.qt_run.proofs.simulation.+follow.Goals as goal
 pub follow-returns-in_default-clause-added : goal.follow-returns-in_default-clause-added
 follow-returns-in_default-clause-added t c =
     IfOk-weaker c.add.result _ _
-    (λ u h. adds_leaf c.args.tally.now c.add.new.self c.args.statements.now c.args.point.now c.in_ok-copied.field-0 c.mass.result c.in_default.len_below
-    (c.in_ok-copied.ensures ∙ ap (λ (p : Point). p.slots) c.point.view_is)
+    (λ u h. adds_leaf c.args.tally.now c.add.new.self c.args.statements.now c.args.point.now c.in_ok-output.field-0 c.mass.result c.in_default.len_below
+    (c.in_ok-output.ensures ∙ ap (λ (p : Point). p.slots) c.point.view_is)
     (c.mass.ensures.value ∙ ap (λ (p : Point). mass p.state) c.point.view_is)
     h)
     c.add.ensures.added

@@ -2,7 +2,7 @@ use Rattle.std.proofs.Common.{sym, ap, subst, ◌∙◌}
 use Rattle.qt_ring.specs.Places.{AreQubits}
 use Rattle.qt_ring.specs.State.{State, applied}
 use Rattle.qt_plain.specs.Vectors.{state_of}
-use Rattle.qt_plain.specs.Mass.{IsPlain}
+use Rattle.qt_plain.specs.Plain.{IsPlain}
 use Rattle.qt_plain.specs.Operators.{operator_of, qubits_of, product_with, Suits}
 use Rattle.qt_plain.proofs.Plain.{suits, after_is, after_plain}
 use Rattle.qt_plain.proofs.vector.StateVector.after.Goals as goal

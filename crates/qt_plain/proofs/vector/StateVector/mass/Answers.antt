@@ -3,7 +3,7 @@ use Rattle.std.proofs.lemmas.Result.{IfOk-at_ok}
 use Rattle.qt_ring.specs.declared.omega.Omega.{Omega}
 use Rattle.qt_ring.specs.State.{total_a, total_b}
 use Rattle.qt_plain.specs.Vectors.{state_of}
-use Rattle.qt_plain.specs.Mass.{mass}
+use Rattle.qt_mass.specs.Mass.{mass}
 use Rattle.qt_plain.proofs.Plain.{plain_bounded}
 use Rattle.qt_plain.proofs.Sizes.{total_good_at}
 use Rattle.qt_plain.proofs.Weighed.{weight_is, weight_bounded, weight_good, weighed_mass, mass_bounded, weigh_ok}

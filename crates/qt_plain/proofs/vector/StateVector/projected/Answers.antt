@@ -2,7 +2,7 @@ use Rattle.std.proofs.Common.{sym, ap, subst, ◌∙◌, List}
 use Rattle.qt_ring.specs.declared.omega.Omega.{Omega}
 use Rattle.qt_ring.specs.State.{State, project}
 use Rattle.qt_plain.specs.Vectors.{state_of}
-use Rattle.qt_plain.specs.Mass.{IsPlain}
+use Rattle.qt_plain.specs.Plain.{IsPlain}
 use Rattle.qt_plain.proofs.Plain.{projected_is, project_plain}
 use Rattle.qt_plain.proofs.vector.StateVector.projected.Goals as goal
 

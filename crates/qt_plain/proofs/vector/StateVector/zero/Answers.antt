@@ -1,7 +1,7 @@
 use Rattle.std.proofs.Common.{◌≡◌, ◌*◌, ◌%◌, ◌^◌, ◌<◌, [], ◌∷◌, ◌++◌, ap, sym, subst, ◌∙◌, arith}
 use Rattle.std.proofs.lemmas.Nat.{one_shl, pow_pos}
 use Rattle.qt_ring.specs.Ring.{nil, one}
-use Rattle.qt_plain.specs.Mass.{IsPlain}
+use Rattle.qt_plain.specs.Plain.{IsPlain}
 use Rattle.qt_plain.proofs.Lists.{zeros_more, zeros_are}
 use Rattle.qt_plain.proofs.Plain.{zero_plain}
 use Rattle.qt_plain.proofs.vector.StateVector.zero.Goals as goal

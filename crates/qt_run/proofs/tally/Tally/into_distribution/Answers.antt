@@ -1,4 +1,4 @@
-use Rattle.std.proofs.Common.{◌≡◌, ◌^◌, ◌≤◌, ◌∷◌, ◌++◌, [], List, true, false, arith, rules, subst, sym, ap, ◌∙◌, append-nil}
+use Rattle.std.proofs.Common.{◌≡◌, ◌^◌, ◌≤◌, ◌∷◌, ◌++◌, [], List, true, false, arith, rules, refl, subst, sym, ap, ◌∙◌, append-nil}
 use Rattle.std.specs.Cmp.Lexicographic.{slice_cmp}
 use Rattle.std.specs.Int.RustNames.{unsigned_abs}
 use Rattle.std.specs.List.Sorted.{IsStrictlySortedBy}
@@ -42,9 +42,9 @@ loop-output-preserved-then-not-is_zero c =
     let e : c.loop-output.output-iterator ≡ (c.in-Some.output, c.in-Some.mass) ∷ c.next.new.self = c.in-Some.ensures.steps in
     let n = numerators_more rest es c.in-Some.output c.in-Some.mass e in
     let something : is_nothing c.in-Some.mass ≡ false = nothing_where c.is_zero.result c.in-Some.mass c.is_zero.ensures.0 c.is_zero.ensures.1 ∙ search rules in
-    let entry : Chance = record { output = c.from_vec-output.result; of = c.reduced-of.result } in
+    let entry : Chance = record { output = c.in-Some.output; of = c.reduced-of.result } in
     let same : entry ≡ listed c.in-Some.output c.in-Some.mass =
-    listed_is c.from_vec-output.result c.in-Some.output c.reduced-of.result c.in-Some.mass (c.from_vec-output.ensures ∙ c.into_values.ensures) (reduced_of_is c.in-Some.mass c.reduced-of.result c.reduced-of.ensures) in
+    listed_is c.in-Some.output c.in-Some.output c.reduced-of.result c.in-Some.mass refl (reduced_of_is c.in-Some.mass c.reduced-of.result c.reduced-of.ensures) in
     let w = whole_part_of_sum c.loop-output.total c.in-Some.mass c.plus-total.result c.plus-total.ensures.a in
     record {
       listed = ap (λ (cs : List Chance). cs ++ chances_of es) c.in_ok-push.ensures.items

@@ -1,16 +1,19 @@
 -- Laws of the mass of a state: gates keep it, the two projections of a qubit share it, it is 0 at the zero vector alone, and 1 at
 -- the state of all zeros.
-use Rattle.std.proofs.Common.{◌≡◌, ◌≢◌, ℕ, ◌+◌, ◌<◌, true, false, [], ◌∷◌, refl, sym, ap, ◌∙◌, arith, ℤ, pos, ◌+ℤ◌, ◌*ℤ◌}
+use Rattle.std.proofs.Common.{◌≡◌, ◌≢◌, ℕ, zero, suc, ◌+◌, ◌-◌, ◌^◌, ◌<◌, Bool, true, false, List, [], ◌∷◌, length, replicate, refl, sym, ap, ◌∙◌, arith, ℤ, pos, ◌+ℤ◌, ◌*ℤ◌}
 use Rattle.std.proofs.lemmas.Int.{ints}
+use Rattle.std.proofs.lemmas.List.{length-replicate}
+use Rattle.std.proofs.lemmas.Nat.{pow_pos}
+use Rattle.qt_ring.specs.Matrix.{Operator}
+use Rattle.qt_ring.specs.Ring.{nil, one}
 use Rattle.qt_ring.specs.State.{State, HasAllEntries, zero_state, applied, project, vanishes, total_a, total_b}
 use Rattle.qt_ring.specs.Gates.{h_gate, x_gate, t_gate, cx_gate}
-use Rattle.qt_ring.proofs.Norms.{total_zero, zero_total}
-use Rattle.qt_ring.proofs.Totals.{Scales, h_scales, x_scales, t_scales, cx_scales, project_totals}
+use Rattle.qt_ring.proofs.Gates.{applied_has_all}
+use Rattle.qt_ring.proofs.Norms.{norm-nil, total_zero, zero_total}
+use Rattle.qt_ring.proofs.Totals.{Scales, h_scales, x_scales, t_scales, cx_scales, project_totals, project_has_all}
 use Rattle.qt_root2.specs.Real.{least, lifted, zero_real, one_real, plus_real}
 use Rattle.qt_root2.proofs.Reals.{IsLeast, least_is_least, least_lifted, least-zero, least_zero_only, plus_real-least}
-use Rattle.qt_plain.specs.Mass.{mass}
-use Rattle.qt_plain.proofs.Plain.{total_a-zero_state, total_b-zero_state}
-pub use Rattle.qt_plain.proofs.Plain.{all_entries_zero_state, all_entries_applied, all_entries_project}
+use Rattle.qt_mass.specs.Mass.{mass}
 
 least_both : (k m : ℕ) (a b c d : ℤ) → k ≡ m → a ≡ c → b ≡ d → least k a b ≡ least m c d
 least_both k m a b c d e f g = ap (λ n. least n a b) e ∙ ap (λ z. least m z b) f ∙ ap (least m c) g
@@ -24,6 +27,14 @@ four_fold h a b c d e f =
 pub mass_is_least : (s : State) → IsLeast (mass s)
 unfolding mass
 mass_is_least s = least_is_least (s.halvings + s.halvings) (total_a s.entries) (total_b s.entries)
+
+-- ---- states that have all their entries
+
+pub all_entries_applied : (g : Operator) (qs : List ℕ) (s : State) → HasAllEntries (applied g qs s)
+all_entries_applied g qs s = applied_has_all g qs s
+
+pub all_entries_project : (q : ℕ) (b : Bool) (s : State) → HasAllEntries (project q b s)
+all_entries_project q b s = project_has_all q b s
 
 -- ---- gates
 
@@ -76,6 +87,26 @@ mass_vanishing s v m =
     absurd (cc)
 
 -- ---- all zeros
+
+total_a_replicate : (k : ℕ) → total_a (replicate k nil) ≡ pos 0
+total_a_replicate zero = refl
+total_a_replicate (suc k) = let e = norm-nil.0 in let t : total_a (replicate k nil) ≡ pos 0 = total_a_replicate k in omega (arith, ints, e)
+
+total_b_replicate : (k : ℕ) → total_b (replicate k nil) ≡ pos 0
+total_b_replicate zero = refl
+total_b_replicate (suc k) = let e = norm-nil.1 in let t : total_b (replicate k nil) ≡ pos 0 = total_b_replicate k in omega (arith, ints, e)
+
+pub total_a-zero_state : (n : ℕ) → total_a (zero_state n).entries ≡ pos 1
+unfolding zero_state one
+total_a-zero_state n = ap (λ z. pos 1 +ℤ z) (total_a_replicate (2 ^ n - 1))
+
+pub total_b-zero_state : (n : ℕ) → total_b (zero_state n).entries ≡ pos 0
+unfolding zero_state one
+total_b-zero_state n = ap (λ z. pos 0 +ℤ z) (total_b_replicate (2 ^ n - 1))
+
+pub all_entries_zero_state : (n : ℕ) → HasAllEntries (zero_state n)
+unfolding zero_state
+all_entries_zero_state n = let p : 0 < 2 ^ n = pow_pos n in let l : length (replicate (2 ^ n - 1) nil) ≡ 2 ^ n - 1 = length-replicate (2 ^ n - 1) nil in omega arith
 
 zero_state_at : (n : ℕ) → total_a (zero_state n).entries ≡ pos 1 → total_b (zero_state n).entries ≡ pos 0 → mass (zero_state n) ≡ one_real
 unfolding mass zero_state
