@@ -3,12 +3,13 @@
 //! A [`qt_value::constant::ConstValue`] is a classical value, or a phase, which is an exact angle that is no value. [`consts::Consts`] says
 //! what is known of names: contracts see it as a list of entries, of which the last of a name counts. [`value::const_value`] gives the value
 //! of an expression, or the first refusal from left to right: a name that isn't in scope, a type that doesn't fit, a division by 0, or what
-//! isn't constant, exact or in range.
+//! isn't constant, exact or in range. [`angles::angle_of`] is a phase as an angle.
 //! `specs/Value.antt` is the meaning of an expression by cases on its tree.
 //!
 //! The typing of a program calls it for sizes, constants, indexes, exponents and the angles of gates.
 #![tactic(auto)]
 
+pub mod angles;
 mod casts;
 pub mod constant;
 pub mod consts;
@@ -18,6 +19,4 @@ mod names;
 mod operators;
 mod parts;
 mod sorts;
-#[cfg(test)]
-mod tests;
 pub mod value;
