@@ -26,7 +26,7 @@ use Rattle.qt_grammar.specs.Outcome.{Outcome, and_then}
 use Rattle.qt_grammar.specs.Language.{◌⊕◌}
 use Rattle.qt_grammar.specs.Language as g
 use Rattle.qt_expr.specs.Parser.{reading, read_exactly, read_label, read_expression, read_all_indexes}
-use Rattle.qt_parse.specs.Parser.{applied, read_assigned, read_compound, read_statement_form, read_keyword_alone, read_behind_first_name, read_by_name, read_global, read_include, read_interface, read_qubit_item, read_register_item, read_array_item, read_gate_item, read_definition, read_statement_item, read_any_version, read_items, read_whole}
+use Rattle.qt_parse.specs.Parser.{applied, read_assigned, read_compound, read_statement_form, read_keyword_alone, read_behind_first_name, read_by_name, read_global, read_include, read_interface, read_qubit_item, read_register_item, read_array_item, read_gate_item, read_definition, read_statement_item, read_versions, read_items, read_whole}
 
 -- ---- behind a name at the beginning of a statement
 
@@ -131,19 +131,46 @@ module _ (tokens : List PlacedTerminal) (levels at : ℕ) where
 
 -- ---- a whole program
 
-with_items : (V : Outcome (Option Version)) (I : ℕ → Outcome (List Item)) (E : ℕ → Outcome PlacedTerminal) (v : Option Version) (i : ℕ) (items : List Item) (j : ℕ) (t : PlacedTerminal) (n : ℕ)
-    → V ≡ Ok (v, i) → I i ≡ Ok (items, j) → E j ≡ Ok (t, n)
+abbrev pub program_of : List Version → List Item → PlacedTerminal → Program
+program_of versions items end = record { versions = versions; items = items; end = end.place }
+
+abbrev at_the_end : Option Version × (List Item × PlacedTerminal) → ℕ → Outcome Program
+at_the_end c l = Ok (program_of (g.versions_of c.0) c.1.0 c.1.1, l)
+
+with_end : (version : Option Version) (items : List Item) (E : Outcome PlacedTerminal)
+    → and_then {A = Option Version × (List Item × PlacedTerminal)} {B = Program}
+    (and_then {A = List Item × PlacedTerminal} {B = Option Version × (List Item × PlacedTerminal)}
+    (and_then {A = PlacedTerminal} {B = List Item × PlacedTerminal} E (λ y l. Ok ((items, y), l))) (λ y l. Ok ((version, y), l))) at_the_end
+    ≡ and_then {A = PlacedTerminal} {B = Program} E (λ end l. Ok (program_of (g.versions_of version) items end, l))
+with_end version items (Ok z) = refl
+with_end version items (Err x) = refl
+
+with_items : (version : Option Version) (I : Outcome (List Item)) (E : ℕ → Outcome PlacedTerminal)
+    → and_then {A = Option Version × (List Item × PlacedTerminal)} {B = Program}
+    (and_then {A = List Item × PlacedTerminal} {B = Option Version × (List Item × PlacedTerminal)}
+    (and_then {A = List Item} {B = List Item × PlacedTerminal} I (λ xs k. and_then {A = PlacedTerminal} {B = List Item × PlacedTerminal} (E k) (λ y l. Ok ((xs, y), l)))) (λ y l. Ok ((version, y), l))) at_the_end
+    ≡ and_then {A = List Item} {B = Program} I (λ items k. and_then {A = PlacedTerminal} {B = Program} (E k) (λ end l. Ok (program_of (g.versions_of version) items end, l)))
+with_items version (Ok z) E = with_end version z.0 (E z.1)
+with_items version (Err x) E = refl
+
+with_version : (V : Outcome (Option Version)) (I : ℕ → Outcome (List Item)) (E : ℕ → Outcome PlacedTerminal)
     → and_then {A = Option Version × (List Item × PlacedTerminal)} {B = Program}
     (and_then {A = Option Version} {B = Option Version × (List Item × PlacedTerminal)} V (λ x m. and_then {A = List Item × PlacedTerminal} {B = Option Version × (List Item × PlacedTerminal)}
-    (and_then {A = List Item} {B = List Item × PlacedTerminal} (I m) (λ xs k. and_then {A = PlacedTerminal} {B = List Item × PlacedTerminal} (E k) (λ y l. Ok ((xs, y), l)))) (λ y l. Ok ((x, y), l))))
-    (λ c l. Ok (record { version = c.0; items = c.1.0; end = c.1.1.place }, l))
-    ≡ Ok (record { version = v; items = items; end = t.place }, n)
-with_items V I E v i items j t n a b c = rw (a, b, c) refl
+    (and_then {A = List Item} {B = List Item × PlacedTerminal} (I m) (λ xs k. and_then {A = PlacedTerminal} {B = List Item × PlacedTerminal} (E k) (λ y l. Ok ((xs, y), l)))) (λ y l. Ok ((x, y), l)))) at_the_end
+    ≡ and_then {A = List Version} {B = Program} (and_then {A = Option Version} {B = List Version} V (λ x m. Ok (g.versions_of x, m)))
+    (λ versions m. and_then {A = List Item} {B = Program} (I m) (λ items k. and_then {A = PlacedTerminal} {B = Program} (E k) (λ end l. Ok (program_of versions items end, l))))
+with_version (Ok z) I E = with_items z.0 (I z.1) E
+with_version (Err x) I E = refl
 
-pub whole_is : (tokens : List PlacedTerminal) (version : Option Version) (i : ℕ) (items : List Item) (j : ℕ) → read_any_version tokens 0 ≡ Ok (version, i) → read_items tokens 64 i ≡ Ok (items, j)
-    → read_exactly tokens (code w.End) j ≡ Ok (stream tokens j, j + 1) → read_whole tokens 64 0 ≡ Ok (record { version = version; items = items; end = (stream tokens j).place }, j + 1)
-unfolding read_any_version read_items read_exactly read_whole
-whole_is tokens version i items j a b c = with_items (reading tokens 0 (maybe {s = sorts.version} g.version_form) None 0) (λ m. reading tokens 64 (g.or_none {s = item} (g.some {s = item} g.global)) None m) (λ m. reading tokens 0 (g.exactly w.End) None m) version i items j (stream tokens j) (j + 1) a b c
+pub whole_is : (tokens : List PlacedTerminal) → read_whole tokens 64 0
+    ≡ and_then {A = List Version} {B = Program} (read_versions tokens 0) (λ versions m. and_then {A = List Item} {B = Program} (read_items tokens 64 m)
+    (λ items k. and_then {A = PlacedTerminal} {B = Program} (read_exactly tokens (code w.End) k) (λ end l. Ok (program_of versions items end, l))))
+unfolding read_versions read_items read_exactly read_whole
+whole_is tokens = with_version (reading tokens 0 (maybe {s = sorts.version} g.version_form) None 0) (λ m. reading tokens 64 (g.or_none {s = item} (g.some {s = item} g.global)) None m) (λ m. reading tokens 0 (g.exactly w.End) None m)
+
+pub no_end : (tokens : List PlacedTerminal) (at : ℕ) → member (terminal_at (stream tokens) at) (code w.End ∷ []) ≡ false → read_exactly tokens (code w.End) at ≡ Err (Syntax at)
+unfolding read_exactly
+no_end tokens at e = rw e refl
 
 pub the_end : (tokens : List PlacedTerminal) (at : ℕ) → member (terminal_at (stream tokens) at) (code w.End ∷ []) ≡ true → read_exactly tokens (code w.End) at ≡ Ok (stream tokens at, at + 1)
 unfolding read_exactly

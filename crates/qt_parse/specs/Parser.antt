@@ -26,7 +26,7 @@ use Rattle.qt_terminals.specs.declared.terminal.Terminal.TheVariants as w
 use Rattle.qt_terminals.specs.Alphabet.{code}
 use Rattle.qt_terminals.specs.Terminals.{PlacedTerminal}
 use Rattle.qt_grammar.specs.Sorts.{Sort, Value, token, target_tail, label, expr, scalar, operand, target, right, modifier, statement, gate_line, parameter, statement_tail, item, entry, version, several, optional, both, any, block, single, an_entry, in_array, parameters, gate_block}
-use Rattle.qt_grammar.specs.Form.{Form, one, then_, maybe, nearest, named}
+use Rattle.qt_grammar.specs.Form.{Form, one, as_tree, then_, maybe, nearest, named}
 use Rattle.qt_grammar.specs.Outcome.{Outcome, and_then}
 use Rattle.qt_grammar.specs.Language.{◌⊗◌, ◌⊳◌, ◌⊲◌, ◌⊕◌}
 use Rattle.qt_grammar.specs.Language as g
@@ -334,8 +334,9 @@ module _ (tokens : List PlacedTerminal) where
   unfoldable pub read_version : ℕ → Outcome Version
   read_version at = reading tokens 0 g.version_form None at
 
-  unfoldable pub read_any_version : ℕ → Outcome (Option Version)
-  read_any_version at = reading tokens 0 (maybe {s = version} g.version_form) None at
+  -- the version of a text, if it has one
+  unfoldable pub read_versions : ℕ → Outcome (List Version)
+  read_versions at = reading tokens 0 (as_tree {s = optional version} {t = several version} g.versions_of (maybe {s = version} g.version_form)) None at
 
   unfoldable pub read_whole : ℕ → ℕ → Outcome Program
   read_whole levels at = reading tokens levels g.whole None at

@@ -17,31 +17,31 @@ use qt_expr::one_token::{behind, exactly, label, next_is};
 use qt_grammar::refusal::Refusal;
 use qt_terminals::stream::TokenStream;
 use qt_terminals::terminal::Terminal;
-use qt_tree::expression::{Expr, InfixOperator};
+use qt_tree::expression::{CompoundOperator, Expr};
 use qt_tree::label::Label;
 use qt_tree::statement::{CalledGate, GateCall, Operand, StatementForm, Target};
 use sqlite_items::Items;
 use std::alloc::Global;
 
 /// The operator of the compound assignment whose sign stands here.
-fn compound_operator(tokens: &TokenStream<'_>, at: usize) -> Option<InfixOperator>
+fn compound_operator(tokens: &TokenStream<'_>, at: usize) -> Option<CompoundOperator>
     ensures some { IfSome result (λ operator. operator ≡ g.compound_op (stream tokens.now at).terminal) }
     ensures yes { IfSome result (λ operator. member (terminal_at (stream tokens.now) at) g.compounds ≡ true) }
     ensures within { IfSome result (λ operator. 0 < terminal_at (stream tokens.now) at) }
     ensures none { IfNone result (member (terminal_at (stream tokens.now) at) g.compounds ≡ false) }
 {
     match tokens.terminal(at) {
-        Terminal::PlusAssign => Some(InfixOperator::Add),
-        Terminal::MinusAssign => Some(InfixOperator::Sub),
-        Terminal::StarAssign => Some(InfixOperator::Mul),
-        Terminal::SlashAssign => Some(InfixOperator::Div),
-        Terminal::PercentAssign => Some(InfixOperator::Rem),
-        Terminal::StarStarAssign => Some(InfixOperator::Pow),
-        Terminal::AndAssign => Some(InfixOperator::And),
-        Terminal::OrAssign => Some(InfixOperator::Or),
-        Terminal::CaretAssign => Some(InfixOperator::Xor),
-        Terminal::ShiftLeftAssign => Some(InfixOperator::Shl),
-        Terminal::ShiftRightAssign => Some(InfixOperator::Shr),
+        Terminal::PlusAssign => Some(CompoundOperator::Add),
+        Terminal::MinusAssign => Some(CompoundOperator::Sub),
+        Terminal::StarAssign => Some(CompoundOperator::Mul),
+        Terminal::SlashAssign => Some(CompoundOperator::Div),
+        Terminal::PercentAssign => Some(CompoundOperator::Rem),
+        Terminal::StarStarAssign => Some(CompoundOperator::Pow),
+        Terminal::AndAssign => Some(CompoundOperator::And),
+        Terminal::OrAssign => Some(CompoundOperator::Or),
+        Terminal::CaretAssign => Some(CompoundOperator::Xor),
+        Terminal::ShiftLeftAssign => Some(CompoundOperator::Shl),
+        Terminal::ShiftRightAssign => Some(CompoundOperator::Shr),
         _ => None,
     }
 }

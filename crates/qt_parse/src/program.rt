@@ -6,7 +6,7 @@ ghost use Rattle.qt_grammar.specs.Language as g;
 ghost use Rattle.qt_grammar.specs.Outcome.{Says, Tells};
 ghost use Rattle.qt_grammar.specs.Spelling.{language_limits};
 ghost use Rattle.qt_expr.specs.Parser.{rest_some};
-ghost use Rattle.qt_parse.specs.Parser.{read_statement_item, read_global, read_items, read_version_number, read_version, read_any_version, read_whole};
+ghost use Rattle.qt_parse.specs.Parser.{read_statement_item, read_global, read_items, read_version_number, read_version, read_versions, read_whole};
 
 use crate::arrays::array_item;
 use crate::bodies::statement_form;
@@ -141,34 +141,36 @@ fn version(alloc: Global, tokens: &TokenStream<'_>, at: usize) -> Result<(Versio
 }
 
 /// `[ version ]`
-#[tactic(auto, unfolding(crate::specs::Parser::read_any_version, crate::specs::Parser::read_version))]
-fn any_version(
+#[tactic(auto, unfolding(crate::specs::Parser::read_versions, crate::specs::Parser::read_version))]
+fn versions(
     alloc: Global,
     tokens: &TokenStream<'_>,
     at: usize,
-) -> Result<(Option<Version>, usize), Refusal>
-    ensures { Says (read_any_version tokens.now at) result }
+) -> Result<(Items<Version>, usize), Refusal>
+    ensures { Says (read_versions tokens.now at) result }
 {
+    let mut versions = Items::new(alloc);
     if !next_is(tokens, at, Terminal::OpenQasm) {
-        return Ok((None, at));
+        return Ok((versions, at));
     }
     let (version, at) = version(alloc, tokens, at)?;
-    Ok((Some(version), at))
+    versions.push(version)?;
+    Ok((versions, at))
 }
 
 /// `program = [ version ] { global }`, and then the end of the text.
-#[tactic(auto, unfolding(crate::specs::Parser::read_whole, crate::specs::Parser::read_items, crate::specs::Parser::read_any_version))]
+#[tactic(auto, using(crate::proofs::Tails::whole_is, crate::proofs::Tails::the_end, crate::proofs::Tails::no_end))]
 pub fn whole(alloc: Global, tokens: &TokenStream<'_>) -> Result<Program, Refusal>
     ensures { Tells (read_whole tokens.now language_limits.levels 0) result }
 {
-    let (version, at) = any_version(alloc, tokens, 0)?;
+    let (versions, at) = versions(alloc, tokens, 0)?;
     let (items, at) = items(alloc, tokens, MOST_LEVELS, at)?;
     if !next_is(tokens, at, Terminal::End) {
         return Err(Refusal::Syntax(at));
     }
     let end = tokens.place(at);
     Ok(Program {
-        version,
+        versions,
         items,
         end,
     })
