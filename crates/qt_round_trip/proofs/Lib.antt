@@ -6,3 +6,4 @@ pub mod reparsing
 pub mod extent
 pub mod SameLines
 pub mod Again
+pub mod Back

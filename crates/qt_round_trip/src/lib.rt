@@ -1,8 +1,9 @@
 //! The round trip of the canonical text: it is read as the program that was printed.
 //!
 //! A text gives tokens, these spell a program, the program is printed, and the printed text gives tokens that spell a program again:
-//! the same but for places, with the same canonical text. [`laws`] has this and the bound on the printed text's length.
-//! `specs/Places.antt` says when two programs are the same but for places.
+//! the same but for places, with the same canonical text. [`laws`] has this and the bound on the printed text's length, and
+//! [`read_back::read_back`] does it: it prints a program and reads the text. `specs/Places.antt` says when two programs are the same
+//! but for places.
 //!
 //! The proof has four parts, which meet in the list of printed lexemes (`proofs/lexemes`, where each of them is told as a token): what
 //! printing keeps of each token of a text (`proofs/literals`), the tokens of the printed text (`proofs/relexing`), the program that
@@ -12,3 +13,4 @@
 #![tactic(auto)]
 
 pub mod laws;
+pub mod read_back;
