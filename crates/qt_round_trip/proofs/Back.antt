@@ -6,7 +6,7 @@ use Rattle.qt_lex.specs.Tokens.{GivesTokens}
 use Rattle.qt_terminals.specs.Terminals.{terminals, stream}
 use Rattle.qt_grammar.specs.declared.refusal.Refusal.{Refusal}
 use Rattle.qt_grammar.specs.declared.refusal.Refusal.TheVariants.{Syntax, Nest, OutOfMemory}
-use Rattle.qt_grammar.specs.Reading.{language_limits}
+use Rattle.qt_grammar.specs.Spelling.{language_limits}
 use Rattle.qt_grammar.specs.Promise.{Parses}
 use Rattle.qt_expr.specs.declared.refusal.ParseRefusal.{ParseRefusal}
 use Rattle.qt_expr.specs.declared.refusal.ParseRefusal.TheVariants as p
