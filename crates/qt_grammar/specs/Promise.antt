@@ -9,7 +9,7 @@ use Rattle.qt_grammar.specs.Sorts.{Sort, Value, program}
 use Rattle.qt_grammar.specs.Form.{Form}
 use Rattle.qt_grammar.specs.Outcome.{Outcome}
 use Rattle.qt_grammar.specs.Language.{whole}
-use Rattle.qt_grammar.specs.Spelling.{Limits}
+use Rattle.qt_grammar.specs.Spelling.{Limits, Spells, Opens, SpellsAtAll, OpensAtAll, SpellsProgram}
 
 -- a form, read from a place on; `outer` is the number of operators before the outermost expression round that place
 module _ (ts : ℕ → PlacedTerminal) (s : Sort) (f : Form s) (outer : Option ℕ) (i : ℕ) where
