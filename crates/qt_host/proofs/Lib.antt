@@ -3,3 +3,7 @@ pub mod Putting
 pub mod Answers
 pub mod OneAnswer
 pub mod Formatting
+pub mod Deciding
+pub mod FirstForm
+pub mod Distributions
+pub mod SomeAnswer

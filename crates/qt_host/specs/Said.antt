@@ -55,6 +55,8 @@ pub data Said (words : List (List ℕ)) (texts : Texts) : Answer → Type 0 wher
   canonical_of : (name : List ℕ) (source : Source) → Asks words (codes "format") name
       → IsTextOfProgram 0 (text_of texts name) source → Said words texts (answered (canonical source))
 
--- of the same words and texts one answer is said
+-- of words and texts exactly one answer is said
 abbrev pub OneAnswer : Type 0
-OneAnswer = (words : List (List ℕ)) (texts : Texts) (first second : Answer) → Said words texts first → Said words texts second → first ≡ second
+OneAnswer =
+    (words : List (List ℕ)) (texts : Texts)
+    → (answer : Answer) × Said words texts answer × ((other : Answer) → Said words texts other → other ≡ answer)

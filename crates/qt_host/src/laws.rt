@@ -3,7 +3,7 @@
 ghost use Rattle.qt_host.specs.Said.{OneAnswer};
 ghost use Rattle.qt_host.specs.Formatting as formatting;
 
-/// Of the same words and texts one answer is said.
+/// Of words and texts exactly one answer is said.
 pub fn one_answer()
     ensures { OneAnswer }
 {}
