@@ -1,6 +1,6 @@
 -- From the text as far as it was fetched to what is said of the whole text: a text that is longer than the fetch reaches is refused
 -- for its length, and every other is fetched whole.
-use Rattle.std.proofs.Common.{◌≡◌, ◌≢◌, ℕ, ◌≤◌, inl, inr, List, length, take, refl, sym, ap, ◌∙◌, subst, arith, length-take}
+use Rattle.std.proofs.Common.{◌≡◌, ◌≢◌, ℕ, ◌≤◌, inl, inr, List, [], ◌∷◌, ◌++◌, codes, length, take, refl, sym, ap, ◌∙◌, subst, arith, length-take}
 use Rattle.std.proofs.lemmas.List.{take_all}
 use Rattle.qt_outside.specs.Causes.{Texts, text_of}
 use Rattle.qt_tree.specs.declared.program.Program.{Program as Source}
@@ -8,7 +8,8 @@ use Rattle.qt_tree.specs.declared.refusal.TextRefusal.{TextRefusal}
 use Rattle.qt_tree.specs.declared.refusal.TextRefusal.TheVariants as e
 use Rattle.qt_read.specs.Reading.{IsTextOfProgram, IsRefused, most_bytes, long, no_utf8, no_token, stopped}
 use Rattle.std.specs.Prelude.{Result, Ok, Err, MatchResult}
-use Rattle.qt_host.specs.Lines.{form_line, shelf_line, fault_line, named}
+use Rattle.qt_read.specs.Lines.{refusal_words}
+use Rattle.qt_host.specs.Lines.{IsLine, TellsRefusal, form_line, shelf_line, fault_line, named}
 use Rattle.qt_host.specs.Said.{Said, Asks, IsMode, answered, refused, refused_text, other_form, report_of, canonical_of}
 use Rattle.qt_host.specs.Steps.{mode_word, IsAnswer, HasNoAnswer, HasNoAnswerAt, HasShelfCause, IsTold}
 use Rattle.qt_host.specs.declared.request.Mode.{Mode}
@@ -94,3 +95,17 @@ line_of_status words mode name before now failed (Text reason) status line ask c
 line_of_status words mode name before now failed (Early of) status line ask cause (inl h) other = absurd (other h.0)
 line_of_status words mode name before now failed OutOfMemory status line ask cause (inl h) other =
     h.1 ∙ sym (ap (λ s. fault_line s words) h.0)
+
+is_form_line : (name : List ℕ) → IsLine (form_line name)
+is_form_line name = (codes "E0 " ++ name ++ codes " form", refl)
+
+-- what is told by 1 is one line, and tells that the text of that name is refused
+pub refused_line : (name : List ℕ) (before now : ℕ) (failed : List ℕ) (reason : HostRefusal) (status : ℕ) (line : List ℕ)
+    → HasShelfCause before now failed name reason → IsTold name reason status line → status ≡ 1 → IsLine line × TellsRefusal name line
+refused_line name before now failed reason status line cause (inr t) one = absurd (omega (arith, t.0, one))
+refused_line name before now failed (Shelf of) status line cause (inl t) one = absurd (omega (arith, t.0, one))
+refused_line name before now failed (Text reason) status line cause (inl t) one = ((refusal_words (name ∷ []) reason, t.1), inr (reason, t.1))
+refused_line name before now failed (Early of) status line cause (inl t) one =
+    let same : line ≡ form_line name = t.1 ∙ ap form_line cause.1 in
+    (subst IsLine (sym same) (is_form_line name), inl same)
+refused_line name before now failed OutOfMemory status line cause (inl t) one = absurd (omega (arith, t.0, one))

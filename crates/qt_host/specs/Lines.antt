@@ -1,5 +1,17 @@
 -- The lines that tell why there is no answer, each ended by a line feed. Those of refused texts stand in the crate that reads them.
-use Rattle.std.specs.Prelude.{ℕ, ◌==◌, if◌then◌else◌, List, [], ◌∷◌, ◌++◌, codes}
+use Rattle.std.specs.Prelude.{◌≡◌, ℕ, ◌+◌, ◌==◌, if◌then◌else◌, ◌⊎◌, List, [], ◌∷◌, ◌++◌, codes, length}
+use Rattle.std.specs.List.{position}
+use Rattle.std.specs.Option.{option_map_or}
+use Rattle.qt_tree.specs.declared.refusal.TextRefusal.{TextRefusal}
+use Rattle.qt_read.specs.Lines.{refusal_line}
+
+-- the length of the first line of a text, with its line feed; of the whole text where it has none
+abbrev pub first_line_length : List ℕ → ℕ
+first_line_length text = option_map_or (λ place. place + 1) (position (λ byte. byte == 10) text) (length text)
+
+-- a line feed ends it
+abbrev pub IsLine : List ℕ → Type 0
+IsLine line = (text : List ℕ) × (line ≡ text ++ 10 ∷ [])
 
 -- there aren't two words
 abbrev pub words_line : List ℕ
@@ -12,6 +24,10 @@ mode_line mode = codes "W2 mode " ++ mode ++ 10 ∷ []
 -- the text of that name is that of a program, but doesn't have the first form
 abbrev pub form_line : List ℕ → List ℕ
 form_line name = codes "E0 " ++ name ++ codes " form" ++ 10 ∷ []
+
+-- the line tells that the text of that name is refused, for some reason, or has another form
+abbrev pub TellsRefusal : List ℕ → List ℕ → Type 0
+TellsRefusal name line = (line ≡ form_line name) ⊎ ((refusal : TextRefusal) × (line ≡ refusal_line (name ∷ []) refusal))
 
 -- the text of that name couldn't be read
 abbrev pub shelf_line : List ℕ → List ℕ

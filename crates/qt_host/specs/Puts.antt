@@ -11,8 +11,9 @@ pub record Seen : Type 0 where
   pub faults : ℕ
   pub wants : ℕ
 
-abbrev pub seen : Option (List ℕ) → ℕ → ℕ → Seen
-seen bytes faults wants = record { bytes = bytes; faults = faults; wants = wants }
+-- what the ghost members of a sink tell of it
+abbrev pub seen : {S : Type 0} → (S → Option (List ℕ)) → (S → ℕ) → (S → ℕ) → S → Seen
+seen {S} bytes faults wants sink = record { bytes = bytes sink; faults = faults sink; wants = wants sink }
 
 -- the bytes, where they are told, are the old ones and then these
 abbrev pub Follows : Option (List ℕ) → Option (List ℕ) → List ℕ → Type 0

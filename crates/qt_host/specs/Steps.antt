@@ -77,8 +77,10 @@ abbrev pub HasNoAnswerAt : Mode → List ℕ → List ℕ → HostRefusal → Ty
 HasNoAnswerAt mode name text (Shelf of) = Unit {0}
 HasNoAnswerAt mode name text reason = HasNoAnswer mode name text reason
 
--- what a refused request leaves of the shelf: it failed for that name, or its count stands where it stood
+-- what a refused request leaves of the shelf: it failed for that name, or its count stands where it stood; a text of another form is
+-- told by that name
 abbrev pub HasShelfCause : ℕ → ℕ → List ℕ → List ℕ → HostRefusal → Type 0
 HasShelfCause before now failed name (Shelf of) = Rose before now × (failed ≡ name) × (of ≡ name)
+HasShelfCause before now failed name (Text reason) = now ≡ before
+HasShelfCause before now failed name (Early of) = (now ≡ before) × (of ≡ name)
 HasShelfCause before now failed name OutOfMemory = Unit {0}
-HasShelfCause before now failed name _ = now ≡ before

@@ -45,8 +45,11 @@ impl From<AllocError> for HostRefusal {
 
 /// The text of that name, as far as it is read.
 fn fetched<S: Shelf>(alloc: Global, shelf: &mut S, name: &str) -> Result<Vec<u8>, HostRefusal>
-    ensures text { (texts : Texts) → S.holds shelf.old ≡ Some texts → IfOk result (λ text. text.items ≡ take MOST (text_of texts name.now)) }
-    ensures cause { MatchResult result (λ _. S.faults shelf.new ≡ S.faults shelf.old) (HasNoText (S.faults shelf.old) (S.faults shelf.new) (S.failed shelf.new) name.now) }
+    ensures text { (texts : Texts) → S.holds shelf.old ≡ Some texts
+        → IfOk result (λ text. text.items ≡ take MOST (text_of texts name.now)) }
+    ensures cause { MatchResult result
+        (λ _. S.faults shelf.new ≡ S.faults shelf.old)
+        (HasNoText (S.faults shelf.old) (S.faults shelf.new) (S.failed shelf.new) name.now) }
 {
     let mut text = Vec::new(alloc);
     match shelf.fetch(name, MOST, &mut text) {
@@ -69,7 +72,9 @@ fn source_of(alloc: Global, name: &str, text: &[u8]) -> Result<Program, HostRefu
 
 /// The canonical text of the program of a text.
 fn canonical_of(alloc: Global, name: &str, text: &[u8]) -> Result<String, HostRefusal>
-    ensures { MatchResult result (λ answer. IsAnswer modes.Format text.now (string_bytes answer)) (HasNoAnswer modes.Format name.now text.now) }
+    ensures { MatchResult result
+        (λ answer. IsAnswer modes.Format text.now (string_bytes answer))
+        (HasNoAnswer modes.Format name.now text.now) }
 {
     let program = source_of(alloc, name, text)?;
     Ok(print(alloc, &program)?)
@@ -104,14 +109,18 @@ pub fn answer_at<S: Shelf>(
     mode: Mode,
     name: &str,
 ) -> Result<String, HostRefusal>
-    ensures answer { (texts : Texts) → S.holds shelf.old ≡ Some texts → MatchResult result (λ answer. IsAnswer mode (text_of texts name.now) (string_bytes answer)) (HasNoAnswerAt mode name.now (text_of texts name.now)) }
-    ensures shelf { MatchResult result (λ _. S.faults shelf.new ≡ S.faults shelf.old) (HasShelfCause (S.faults shelf.old) (S.faults shelf.new) (S.failed shelf.new) name.now) }
+    ensures answer { (texts : Texts) → S.holds shelf.old ≡ Some texts → MatchResult result
+        (λ answer. IsAnswer mode (text_of texts name.now) (string_bytes answer))
+        (HasNoAnswerAt mode name.now (text_of texts name.now)) }
+    ensures shelf { MatchResult result
+        (λ _. S.faults shelf.new ≡ S.faults shelf.old)
+        (HasShelfCause (S.faults shelf.old) (S.faults shelf.new) (S.failed shelf.new) name.now) }
 {
     let text = fetched(alloc, shelf, name)?;
     answer_of(alloc, mode, name, text.as_slice())
 }
 
-/// The canonical text of the program in the text of that name, which alone is fetched. The text is refused as for the mode
+/// The canonical text of the program in the text of that name. The text is refused as for the mode
 /// `format` (E1 to E6); the shelf's fault comes only where its count rose in this call, with that name, and a count that rose is
 /// answered by that fault or want of memory.
 pub fn format_text<S: Shelf>(
@@ -119,8 +128,12 @@ pub fn format_text<S: Shelf>(
     shelf: &mut S,
     name: &str,
 ) -> Result<String, HostRefusal>
-    ensures text { (texts : Texts) → S.holds shelf.old ≡ Some texts → MatchResult result (λ text. IsAnswer modes.Format (text_of texts name.now) (string_bytes text)) (HasNoAnswerAt modes.Format name.now (text_of texts name.now)) }
-    ensures shelf { MatchResult result (λ _. S.faults shelf.new ≡ S.faults shelf.old) (HasShelfCause (S.faults shelf.old) (S.faults shelf.new) (S.failed shelf.new) name.now) }
+    ensures text { (texts : Texts) → S.holds shelf.old ≡ Some texts → MatchResult result
+        (λ text. IsAnswer modes.Format (text_of texts name.now) (string_bytes text))
+        (HasNoAnswerAt modes.Format name.now (text_of texts name.now)) }
+    ensures shelf { MatchResult result
+        (λ _. S.faults shelf.new ≡ S.faults shelf.old)
+        (HasShelfCause (S.faults shelf.old) (S.faults shelf.new) (S.failed shelf.new) name.now) }
 {
     answer_at(alloc, shelf, Mode::Format, name)
 }

@@ -1,6 +1,6 @@
 ghost use Rattle.std.specs.Prelude.{◌≡◌, ◌≢◌, ℕ, List, ◌<◌, ◌⊎◌, map, string_bytes, Some};
 ghost use Rattle.qt_outside.specs.Causes.{Texts, Rose};
-ghost use Rattle.qt_host.specs.Lines.{fault_line};
+ghost use Rattle.qt_host.specs.Lines.{IsLine, TellsRefusal, fault_line, named};
 ghost use Rattle.qt_host.specs.Said.{Said, refused, Asks, AreServed};
 ghost use Rattle.qt_host.specs.Puts.{seen, PutsLine, Answered, AnsweredInPart};
 
@@ -14,7 +14,8 @@ use qt_outside::sink::Sink;
 use std::alloc::Global;
 
 /// Answers the words of a command line, without the program's name: `run NAME` puts the report of the program in the text
-/// of that name to `out`, and `format NAME` its canonical text, each line by one put. The answer is then 0.
+/// of that name to `out`, and `format NAME` its canonical text, each line by one put. The answer is then 0. No clause says how often
+/// the sinks and the shelf are called: the cases of `qt_host_cases` count their calls.
 ///
 /// The other statuses each put one line to `err`: 1 where the text is refused, 2 where the words ask for nothing that is served,
 /// 4 where the shelf failed, 5 where `out` failed, 6 where memory ran out.
@@ -28,8 +29,20 @@ pub fn host<S: Shelf, O: Sink, E: Sink>(
     ensures statuses { (result ≡ 0) ⊎ (result ≡ 1) ⊎ (result ≡ 2) ⊎ (result ≡ 4) ⊎ (result ≡ 5) ⊎ (result ≡ 6) }
 
     // Where the shelf tells its texts: 0 and 1 are what is said of the words and texts.
-    ensures answer { (texts : Texts) → S.holds shelf.old ≡ Some texts → result ≡ 0 → Answered (map string_bytes words.now) texts (seen (O.bytes out.old) (O.faults out.old) (O.wants out.old)) (seen (O.bytes out.new) (O.faults out.new) (O.wants out.new)) }
-    ensures refusal { (texts : Texts) → S.holds shelf.old ≡ Some texts → result ≡ 1 → (line : List ℕ) × Said (map string_bytes words.now) texts (refused 1 line) × PutsLine (seen (E.bytes err.old) (E.faults err.old) (E.wants err.old)) (seen (E.bytes err.new) (E.faults err.new) (E.wants err.new)) line }
+    ensures answer { let before = seen O.bytes O.faults O.wants out.old in
+        let after = seen O.bytes O.faults O.wants out.new in
+        (texts : Texts) → S.holds shelf.old ≡ Some texts → result ≡ 0
+        → Answered (map string_bytes words.now) texts before after }
+    ensures refusal { let before = seen E.bytes E.faults E.wants err.old in
+        let after = seen E.bytes E.faults E.wants err.new in
+        (texts : Texts) → S.holds shelf.old ≡ Some texts → result ≡ 1
+        → (line : List ℕ) × Said (map string_bytes words.now) texts (refused 1 line) × PutsLine before after line }
+
+    // Whatever the shelf tells: 1 puts one line, which tells that the text of the name that was asked is refused.
+    ensures refusal_line { let before = seen E.bytes E.faults E.wants err.old in
+        let after = seen E.bytes E.faults E.wants err.new in
+        result ≡ 1
+        → (line : List ℕ) × IsLine line × TellsRefusal (named (map string_bytes words.now)) line × PutsLine before after line }
 
     // 2 comes only where the words ask for nothing that is served; they then have no other answer but want of memory.
     ensures words { result ≡ 2 → ¬ AreServed (map string_bytes words.now) }
@@ -42,13 +55,22 @@ pub fn host<S: Shelf, O: Sink, E: Sink>(
 
     // 5 comes only where `out` failed in this call, and then it holds a part of the answer; so it may with 6.
     ensures sink { result ≡ 5 → Rose (O.faults out.old) (O.faults out.new) }
-    ensures sink_part { (texts : Texts) → S.holds shelf.old ≡ Some texts → result ≡ 5 → AnsweredInPart (map string_bytes words.now) texts (seen (O.bytes out.old) (O.faults out.old) (O.wants out.old)) (seen (O.bytes out.new) (O.faults out.new) (O.wants out.new)) }
-    ensures memory_part { (texts : Texts) → S.holds shelf.old ≡ Some texts → result ≡ 6 → (out.new ≡ out.old) ⊎ (AnsweredInPart (map string_bytes words.now) texts (seen (O.bytes out.old) (O.faults out.old) (O.wants out.old)) (seen (O.bytes out.new) (O.faults out.new) (O.wants out.new)) × Rose (O.wants out.old) (O.wants out.new)) }
+    ensures sink_part { let before = seen O.bytes O.faults O.wants out.old in
+        let after = seen O.bytes O.faults O.wants out.new in
+        (texts : Texts) → S.holds shelf.old ≡ Some texts → result ≡ 5
+        → AnsweredInPart (map string_bytes words.now) texts before after }
+    ensures memory_part { let before = seen O.bytes O.faults O.wants out.old in
+        let after = seen O.bytes O.faults O.wants out.new in
+        (texts : Texts) → S.holds shelf.old ≡ Some texts → result ≡ 6
+        → (out.new ≡ out.old)
+        ⊎ (AnsweredInPart (map string_bytes words.now) texts before after × Rose before.wants after.wants) }
     ensures refused { (result ≡ 1) ⊎ (result ≡ 2) ⊎ (result ≡ 4) → out.new ≡ out.old }
 
     // One line tells of each status but 0.
     ensures quiet { result ≡ 0 → err.new ≡ err.old }
-    ensures line { result ≢ 0 → result ≢ 1 → PutsLine (seen (E.bytes err.old) (E.faults err.old) (E.wants err.old)) (seen (E.bytes err.new) (E.faults err.new) (E.wants err.new)) (fault_line result (map string_bytes words.now)) }
+    ensures line { let before = seen E.bytes E.faults E.wants err.old in
+        let after = seen E.bytes E.faults E.wants err.new in
+        result ≢ 0 → result ≢ 1 → PutsLine before after (fault_line result (map string_bytes words.now)) }
 {
     let Some(request) = request_of(words) else {
         return tell_words(alloc, words, err);

@@ -1,16 +1,27 @@
-ghost use Rattle.std.specs.Prelude.{◌<◌, ◌≤◌, length, OnOk, IfErr};
+ghost use Rattle.std.specs.Prelude.{◌≡◌, ◌==◌, ◌<◌, ◌≤◌, length, OnOk, IfErr, IfSome};
+ghost use Rattle.std.specs.List.{position};
+ghost use Rattle.qt_host.specs.Lines.{first_line_length};
 ghost use Rattle.qt_host.specs.Puts.{seen, Whole, IsCut};
 
 use qt_outside::faults::PutFault;
 use qt_outside::sink::Sink;
 
-/// The length of the first line, with its line feed.
+/// The place of the first line feed.
+fn line_feed(text: &[u8]) -> Option<usize>
+    ensures place { result ≡ position (λ byte. byte == 10) text.now }
+    ensures within { IfSome result (λ place. place < length text.now) }
+{
+    text.iter().position(|byte| *byte == b'\n')
+}
+
+/// The length of the first line: it ends with the first line feed, or is the whole text where there is none.
 fn first_line(text: &[u8]) -> usize
     requires { 0 < length text.now }
+    ensures line_feed { result ≡ first_line_length text.now }
     ensures some { 0 < result }
     ensures within { result ≤ length text.now }
 {
-    match text.iter().position(|byte| *byte == b'\n') {
+    match line_feed(text) {
         Some(place) => place + 1,
         None => text.len(),
     }
@@ -18,8 +29,8 @@ fn first_line(text: &[u8]) -> usize
 
 /// Puts a text out, each line by one put.
 pub fn put_lines<O: Sink>(out: &mut O, text: &[u8]) -> Result<(), PutFault>
-    ensures ok { OnOk result (Whole (seen (O.bytes out.old) (O.faults out.old) (O.wants out.old)) (seen (O.bytes out.new) (O.faults out.new) (O.wants out.new)) text.now) }
-    ensures refused { IfErr result (IsCut text.now (seen (O.bytes out.old) (O.faults out.old) (O.wants out.old)) (seen (O.bytes out.new) (O.faults out.new) (O.wants out.new))) }
+    ensures ok { OnOk result (Whole (seen O.bytes O.faults O.wants out.old) (seen O.bytes O.faults O.wants out.new) text.now) }
+    ensures refused { IfErr result (IsCut text.now (seen O.bytes O.faults O.wants out.old) (seen O.bytes O.faults O.wants out.new)) }
 {
     let mut rest = text;
     while !rest.is_empty() {

@@ -33,7 +33,9 @@ fn mode_of(word: &str) -> Option<Mode>
 
 /// What the words ask for, if it is served: there are two, and the first is a mode.
 pub fn request_of(words: &[String]) -> Option<Request<'_>>
-    ensures { MatchOption result (¬ AreServed (map string_bytes words.now)) (λ request. Asks (map string_bytes words.now) (mode_word request.mode) request.name.now) }
+    ensures { MatchOption result
+        (¬ AreServed (map string_bytes words.now))
+        (λ request. Asks (map string_bytes words.now) (mode_word request.mode) request.name.now) }
 {
     match words {
         [mode, name] => match mode_of(mode.as_str()) {

@@ -17,7 +17,7 @@ use std::alloc::{AllocError, Global};
 
 /// Puts one line, and gives up where the sink refuses it.
 pub fn put_line<E: Sink>(err: &mut E, line: &str)
-    ensures { PutsLine (seen (E.bytes err.old) (E.faults err.old) (E.wants err.old)) (seen (E.bytes err.new) (E.faults err.new) (E.wants err.new)) line.now }
+    ensures { PutsLine (seen E.bytes E.faults E.wants err.old) (seen E.bytes E.faults E.wants err.new) line.now }
 {
     let _ = err.put(line.as_bytes());
 }
@@ -25,7 +25,7 @@ pub fn put_line<E: Sink>(err: &mut E, line: &str)
 /// Puts the line of want of memory, and gives its status.
 pub fn tell_want<E: Sink>(err: &mut E) -> u8
     ensures status { result ≡ 6 }
-    ensures line { PutsLine (seen (E.bytes err.old) (E.faults err.old) (E.wants err.old)) (seen (E.bytes err.new) (E.faults err.new) (E.wants err.new)) memory_line }
+    ensures line { PutsLine (seen E.bytes E.faults E.wants err.old) (seen E.bytes E.faults E.wants err.new) memory_line }
 {
     put_line(err, "M1 memory\n");
     6
@@ -34,7 +34,7 @@ pub fn tell_want<E: Sink>(err: &mut E) -> u8
 /// Puts the line of a sink that failed, and gives its status.
 pub fn tell_sink<E: Sink>(err: &mut E) -> u8
     ensures status { result ≡ 5 }
-    ensures line { PutsLine (seen (E.bytes err.old) (E.faults err.old) (E.wants err.old)) (seen (E.bytes err.new) (E.faults err.new) (E.wants err.new)) (codes "O1 sink\n") }
+    ensures line { PutsLine (seen E.bytes E.faults E.wants err.old) (seen E.bytes E.faults E.wants err.new) (codes "O1 sink\n") }
 {
     put_line(err, "O1 sink\n");
     5
@@ -58,8 +58,11 @@ fn words_line(alloc: Global, words: &[String]) -> Result<String, AllocError>
 /// Puts the line of words that ask for nothing that is served, and gives its status; those of want of memory where there is none for it.
 pub fn tell_words<E: Sink>(alloc: Global, words: &[String], err: &mut E) -> u8
     ensures status { (result ≡ 2) ⊎ (result ≡ 6) }
-    ensures line { (result ≡ 2) → PutsLine (seen (E.bytes err.old) (E.faults err.old) (E.wants err.old)) (seen (E.bytes err.new) (E.faults err.new) (E.wants err.new)) (unserved_line (map string_bytes words.now)) }
-    ensures want { (result ≡ 6) → PutsLine (seen (E.bytes err.old) (E.faults err.old) (E.wants err.old)) (seen (E.bytes err.new) (E.faults err.new) (E.wants err.new)) memory_line }
+    ensures line { (result ≡ 2) → PutsLine
+        (seen E.bytes E.faults E.wants err.old)
+        (seen E.bytes E.faults E.wants err.new)
+        (unserved_line (map string_bytes words.now)) }
+    ensures want { (result ≡ 6) → PutsLine (seen E.bytes E.faults E.wants err.old) (seen E.bytes E.faults E.wants err.new) memory_line }
 {
     match words_line(alloc, words) {
         Ok(line) => {
@@ -112,7 +115,8 @@ fn status_of(refusal: &HostRefusal) -> u8
 
 /// Puts the line of a refusal and gives its status; those of want of memory where there is none for the line.
 pub fn tell<E: Sink>(alloc: Global, name: &str, refusal: &HostRefusal, err: &mut E) -> u8
-    ensures { (line : List ℕ) × IsTold name.now refusal.now result line × PutsLine (seen (E.bytes err.old) (E.faults err.old) (E.wants err.old)) (seen (E.bytes err.new) (E.faults err.new) (E.wants err.new)) line }
+    ensures { (line : List ℕ) × IsTold name.now refusal.now result line
+        × PutsLine (seen E.bytes E.faults E.wants err.old) (seen E.bytes E.faults E.wants err.new) line }
 {
     match line_of(alloc, name, refusal) {
         Ok(line) => {

@@ -1,8 +1,9 @@
-use Rattle.std.proofs.Common.{inr, subst, sym, map, string_bytes}
+use Rattle.std.proofs.Common.{ℕ, List, inr, ap, subst, sym, map, string_bytes}
 use Rattle.qt_outside.specs.Causes.{text_of}
 use Rattle.qt_host.specs.Puts.{PutsLine}
 use Rattle.qt_host.specs.Steps.{mode_word, IsAnswer}
-use Rattle.qt_host.proofs.Answers.{said, told, line_of_status}
+use Rattle.qt_host.specs.Lines.{TellsRefusal, named}
+use Rattle.qt_host.proofs.Answers.{said, told, line_of_status, refused_line}
 use Rattle.qt_host.proofs.host.host.Goals as goal
 
 pub returns-in-Err-clause-refusal : goal.returns-in-Err-clause-refusal
@@ -10,6 +11,13 @@ returns-in-Err-clause-refusal g c = λ texts tells one.
     let words = map string_bytes c.args.words.now in
     let why = c.in-Err.ensures.answer texts tells in
     (c.tell.ensures.0, told words texts c.in-Some.request.name.now c.in-Some.request.mode c.in-Err.refusal c.tell.result c.tell.ensures.0 c.in-Some.ensures why c.tell.ensures.1 one, c.tell.ensures.2)
+
+pub returns-in-Err-clause-refusal_line : goal.returns-in-Err-clause-refusal_line
+returns-in-Err-clause-refusal_line g c = λ one.
+    let name = c.in-Some.request.name.now in
+    let line = c.tell.ensures.0 in
+    let is = refused_line name _ _ _ c.in-Err.refusal c.tell.result line c.in-Err.ensures.shelf c.tell.ensures.1 one in
+    (line, is.0, subst (λ (n : List ℕ). TellsRefusal n line) (sym (ap named c.in-Some.ensures)) is.1, c.tell.ensures.2)
 
 pub returns-in-Err-clause-line : goal.returns-in-Err-clause-line
 returns-in-Err-clause-line g c = λ some other.

@@ -27,5 +27,5 @@ returns-in-Err-clause-refused g c =
     let done = c.loop-rest.invariant.0 in
     let rest : c.loop-rest.rest.now ≡ line ++ behind = pieces c.loop-rest.rest.now line behind c.first_line.result c.split_at.ensures.front c.split_at.ensures.back in
     let text : c.args.text.now ≡ done ++ (line ++ behind) = c.loop-rest.invariant.1 ∙ ap (λ (t : List ℕ). done ++ t) rest in
-    subst (λ (t : List ℕ). IsCut t (seen (g.O.Sink.bytes c.args.out.now) (g.O.Sink.faults c.args.out.now) (g.O.Sink.wants c.args.out.now)) (seen (g.O.Sink.bytes c.put.new.self) (g.O.Sink.faults c.put.new.self) (g.O.Sink.wants c.put.new.self)) c.in-Err.fault) (sym text)
+    subst (λ (t : List ℕ). IsCut t (seen g.O.Sink.bytes g.O.Sink.faults g.O.Sink.wants c.args.out.now) (seen g.O.Sink.bytes g.O.Sink.faults g.O.Sink.wants c.put.new.self) c.in-Err.fault) (sym text)
     (cut_more _ _ _ done line behind c.in-Err.fault c.loop-rest.invariant.2 c.in-Err.ensures.bytes c.in-Err.ensures.cause)
