@@ -1,4 +1,4 @@
-ghost use Rattle.std.specs.Prelude.{◌≡◌, ◌+◌, ◌≤◌, ℕ, List, ◌++◌, length, Err, OnOk, string_bytes, IfOk};
+ghost use Rattle.std.specs.Prelude.{◌≡◌, ◌+◌, ◌≤◌, ℕ, List, [], ◌++◌, length, Err, OnOk, string_bytes, IfOk};
 ghost use Rattle.qt_outside.specs.Causes.{FetchCause};
 
 use qt_outside::faults::FetchFault;
@@ -18,7 +18,11 @@ pub struct FileShelf<'a, R: Files> {
 }
 
 impl<'a, R: Files> FileShelf<'a, R> {
-    pub fn new(alloc: Global, files: &'a R) -> FileShelf<'a, R> {
+    /// A shelf that hasn't failed.
+    pub fn new(alloc: Global, files: &'a R) -> FileShelf<'a, R>
+        ensures faults { result.faults ≡ 0 }
+        ensures failed { string_bytes result.failed_name ≡ [] }
+    {
         FileShelf {
             files,
             faults: 0,

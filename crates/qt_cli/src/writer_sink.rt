@@ -1,4 +1,4 @@
-ghost use Rattle.std.specs.Prelude.{None};
+ghost use Rattle.std.specs.Prelude.{◌≡◌, None};
 
 use qt_outside::faults::PutFault;
 use qt_outside::sink::Sink;
@@ -12,7 +12,10 @@ pub struct WriterSink<W: Write + Drop> {
 }
 
 impl<W: Write + Drop> WriterSink<W> {
-    pub fn new(writer: W) -> WriterSink<W> {
+    /// A sink that hasn't failed.
+    pub fn new(writer: W) -> WriterSink<W>
+        ensures { result.faults ≡ 0 }
+    {
         WriterSink { writer, faults: 0 }
     }
 }
