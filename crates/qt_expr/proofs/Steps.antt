@@ -14,7 +14,7 @@ use Rattle.qt_tree.specs.declared.expression.InfixOperator.TheVariants as op
 use Rattle.qt_grammar.specs.Language.{◌⊳◌, ops_at, joined, powered, signed, exactly_operator, primary, power, negated}
 use Rattle.qt_expr.specs.Parser.{reading, named_to, rest_separated, read_any, read_unary, read_expression, read_operation, read_more_operands, read_power, read_primary, read_factor, read_range, read_range_form, read_index, read_index_form, read_in_size_of, read_dimension, read_members, read_list}
 
--- the words of unary operators
+-- the terminals of unary operators
 abbrev pub signs : List ℕ
 signs = code w.Minus ∷ code w.Bang ∷ code w.Tilde ∷ []
 

@@ -1,3 +1,3 @@
 pub mod Parser
 pub mod Nested
-pub mod Refusals
+pub mod Answers

@@ -5,7 +5,7 @@ use denote.Ref.{Bor}
 use Rattle.qt_tree.specs.declared.expression.Expr.{Expr}
 use Rattle.qt_terminals.specs.Terminals.{PlacedTerminal}
 use Rattle.qt_grammar.specs.declared.refusal.Refusal.{Refusal}
-use Rattle.qt_expr.specs.declared.nesting.Nesting.{Nesting}
+use Rattle.qt_lookahead.specs.declared.nesting.Nesting.{Nesting}
 use Rattle.qt_grammar.specs.Outcome.{Says}
 use Rattle.qt_expr.specs.Parser.{read_operation}
 

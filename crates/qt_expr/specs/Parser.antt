@@ -1,42 +1,23 @@
--- What the functions that read expressions answer: the grammar's reader of a form from the left, over the words of a text's
--- tokens, with at most 256 operators in an expression. OpenQASM 3.0, the grammar in the appendix of the live specification.
-use Rattle.std.specs.Prelude.{◌≡◌, ℕ, ◌+◌, List, [], ◌∷◌, ◌++◌, length, drop, if◌then◌else◌, Option, None, Result, Ok, Err}
+-- What the functions that read expressions answer: the grammar's reader of a form from the left, over the terminals of a
+-- text's tokens, with at most 256 operators in an expression. OpenQASM 3.0, the grammar in the appendix of the live specification.
+use Rattle.std.specs.Prelude.{ℕ, ◌+◌, List, [], ◌∷◌, ◌++◌, length, drop, Option, None}
 use Rattle.qt_tree.specs.declared.expression.Expr.{Expr}
 use Rattle.qt_tree.specs.declared.expression.Scalar.{Scalar}
 use Rattle.qt_tree.specs.declared.expression.Index.{Index}
 use Rattle.qt_tree.specs.declared.expression.Range.{Range}
 use Rattle.qt_terminals.specs.declared.terminal.Terminal.{Terminal}
+use Rattle.qt_terminals.specs.declared.terminal.Terminal.TheVariants as w
 use Rattle.qt_terminals.specs.Alphabet.{code}
 use Rattle.qt_terminals.specs.Terminals.{PlacedTerminal, stream}
-use Rattle.qt_grammar.specs.declared.refusal.Refusal.{Refusal}
-use Rattle.qt_grammar.specs.declared.refusal.Refusal.TheVariants.{Syntax}
-use Rattle.qt_grammar.specs.Sorts.{Sort, Value, Name, sort, nothing, expr, index, range, range_tail, optional, any, unary, an_index, a_range, a_set, in_sizeof}
+use Rattle.qt_grammar.specs.Sorts.{Sort, Value, Name, sort, nothing, label, expr, index, range, range_tail, optional, both, any, unary, an_index, a_range, a_set, in_sizeof}
 use Rattle.qt_grammar.specs.Form.{Form, operator, empty, as_tree, then_, maybe, named, member, terminal_at}
 use Rattle.qt_grammar.specs.Lookahead.{first}
 use Rattle.qt_grammar.specs.Outcome.{Outcome}
 pub use Rattle.qt_grammar.specs.Outcome.{Says}
-use Rattle.qt_grammar.specs.Spelling.{language_limits}
 use Rattle.qt_grammar.specs.Reading.{run, run_to, rest_of}
+use Rattle.qt_grammar.specs.Language.{◌⊗◌, ◌⊳◌}
 use Rattle.qt_grammar.specs.Language as g
-
--- the place behind a token, where the outcome is that token and that place
-abbrev pub Steps : {A : Type 0} → Outcome A → A → Result ℕ Refusal → Type 0
-Steps out x (Ok behind) = out ≡ Ok (x, behind)
-Steps out x (Err e) = out ≡ Err e
-
--- the same, where something was read before the token
-abbrev pub Ends : {A B : Type 0} → Outcome A → A → B → Result (B × ℕ) Refusal → Type 0
-Ends out x before (Ok read) = (out ≡ Ok (x, read.1)) × (read.0 ≡ before)
-Ends out x before (Err e) = out ≡ Err e
-
--- what was read before something, and that
-abbrev pub Adds : {A B : Type 0} → A → Result (B × ℕ) Refusal → Result ((A × B) × ℕ) Refusal → Type 0
-Adds before found (Ok both) = (found ≡ Ok (both.0.1, both.1)) × (both.0.0 ≡ before)
-Adds before found (Err e) = found ≡ Err e
-
--- how many operators an expression has at most that stands in no other
-abbrev pub cap : ℕ
-cap = language_limits.operators
+use Rattle.qt_lookahead.specs.OneToken.{cap}
 
 module _ (tokens : List PlacedTerminal) where
   abbrev pub named_to : ℕ → (n : Name) → Option ℕ → ℕ → Outcome (Value (sort n))
@@ -45,9 +26,6 @@ module _ (tokens : List PlacedTerminal) where
   -- a form, with so many levels below it, and so many operators before the outermost expression round it
   abbrev pub reading : {s : Sort} → ℕ → Form s → Option ℕ → ℕ → Outcome (Value s)
   reading levels f outer at = run (stream tokens) cap (length tokens) (named_to levels) f outer at
-
-  unfoldable pub read_exactly : ℕ → ℕ → Outcome PlacedTerminal
-  read_exactly n at = if member (terminal_at (stream tokens) at) (n ∷ []) then Ok (stream tokens at, at + 1) else Err (Syntax at)
 
   -- the rest of a list: one more as long as a token of this terminal comes
   unfoldable pub rest_separated : {s : Sort} → Terminal → Form s → ℕ → Option ℕ → ℕ → List (Value s) → ℕ → Outcome (List (Value s))
@@ -131,6 +109,13 @@ module _ (tokens : List PlacedTerminal) where
   unfoldable pub read_in_size_of : ℕ → Option ℕ → ℕ → Outcome (List ℕ × Option Expr)
   read_in_size_of levels outer at = named_to levels in_sizeof outer at
 
+  -- the dimension of a name in `sizeof`, if there is one; the name with it in their parentheses
+  unfoldable pub read_dimension_or_none : ℕ → Option ℕ → ℕ → Outcome (Option Expr)
+  read_dimension_or_none levels outer at = reading levels (maybe {s = expr} (g.exactly w.Comma ⊳ g.expression)) outer at
+
+  unfoldable pub read_measured_name : ℕ → Option ℕ → ℕ → Outcome (List ℕ × Option Expr)
+  read_measured_name levels outer at = reading levels (g.parens {s = both label (optional expr)} (named in_sizeof)) outer at
+
   unfoldable pub read_dimension : ℕ → Option ℕ → ℕ → Outcome (List ℕ × Option Expr)
   read_dimension levels outer at = reading levels (g.rule in_sizeof) outer at
 
@@ -157,6 +142,17 @@ module _ (tokens : List PlacedTerminal) where
 
   unfoldable pub read_index_form : ℕ → Option ℕ → ℕ → Outcome Index
   read_index_form levels outer at = reading levels g.index_form outer at
+
+  -- a range behind its first colon: what stands behind the next colon, that with the expression before it, and both if there
+  -- are any
+  unfoldable pub read_last_bound : ℕ → Option ℕ → ℕ → Outcome (Option (Option Expr))
+  read_last_bound levels outer at = reading levels (maybe {s = optional expr} (g.exactly w.Colon ⊳ maybe g.expression)) outer at
+
+  unfoldable pub read_bounds : ℕ → Option ℕ → ℕ → Outcome (Expr × Option (Option Expr))
+  read_bounds levels outer at = reading levels (g.expression ⊗ maybe {s = optional expr} (g.exactly w.Colon ⊳ maybe g.expression)) outer at
+
+  unfoldable pub read_bounds_or_none : ℕ → Option ℕ → ℕ → Outcome (Option (Expr × Option (Option Expr)))
+  read_bounds_or_none levels outer at = reading levels (maybe {s = both expr (optional (optional expr))} (g.expression ⊗ maybe {s = optional expr} (g.exactly w.Colon ⊳ maybe g.expression))) outer at
 
   -- a range from its colon on, behind its start
   unfoldable pub read_behind_start : ℕ → Option ℕ → Option Expr → ℕ → Outcome Range

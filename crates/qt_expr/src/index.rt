@@ -3,37 +3,107 @@
 ghost use Rattle.std.specs.Prelude.{◌≡◌, ◌+◌, ◌≤◌, length, None, Some};
 ghost use Rattle.qt_terminals.specs.declared.terminal.Terminal.TheVariants as w;
 ghost use Rattle.qt_grammar.specs.Form as form;
-ghost use Rattle.qt_terminals.specs.Alphabet as alphabet;
-ghost use Rattle.qt_grammar.specs.Lookahead as lookahead;
 ghost use Rattle.qt_grammar.specs.Sorts as sorts;
 ghost use Rattle.qt_grammar.specs.Language as language;
 ghost use Rattle.qt_grammar.specs.Outcome.{Says};
 ghost use Rattle.qt_expr.specs.Nested.{Nests};
-ghost use Rattle.qt_expr.specs.Parser.{read_all_indexes, read_behind_start, read_index, read_index_form, read_index_list, read_indexes, read_place_or_range, read_range, read_range_form, rest_separated, rest_some};
+ghost use Rattle.qt_expr.specs.Parser.{read_all_indexes, read_behind_start, read_bounds, read_bounds_or_none, read_index, read_index_form, read_index_list, read_indexes, read_last_bound, read_place_or_range, read_range, read_range_form, rest_separated, rest_some};
 
-use crate::nesting::{Nesting, too_deep};
-use crate::one_token::{begins_expression, behind, exactly, next_is};
-use crate::pieces::{ended, paired};
 use crate::reader::Reader;
 use qt_grammar::refusal::Refusal;
+use qt_lookahead::begins::{begins_expression, begins_index};
+use qt_lookahead::nesting::{Nesting, too_deep};
+use qt_lookahead::one_token::{behind, exactly, next_is};
+use qt_lookahead::pieces::{ended, paired};
 use qt_terminals::stream::TokenStream;
 use qt_terminals::terminal::Terminal;
 use qt_tree::expression::{Expr, Index, Range};
 use sqlite_items::Items;
 use std::alloc::Global;
 
-/// Whether what stands in the brackets of an index begins with that terminal.
-fn begins_index(terminal: Terminal) -> bool
-    ensures { result ≡ form.member (alphabet.code terminal) (lookahead.first_of sorts.an_index) }
+/// The range from that start on with what stands behind its colon: nothing, its end, or its step and what stands behind the
+/// next colon.
+fn range_of(start: Option<Expr>, bounds: Option<(Expr, Option<Option<Expr>>)>) -> Range
+    ensures { result ≡ language.range_of bounds start }
 {
-    matches!(terminal, Terminal::LeftBrace | Terminal::Colon) || begins_expression(terminal)
+    match bounds {
+        None => Range {
+            start,
+            step: None,
+            end: None,
+        },
+        Some((first, last)) => match last {
+            None => Range {
+                start,
+                step: None,
+                end: Some(first),
+            },
+            Some(end) => Range {
+                start,
+                step: Some(first),
+                end,
+            },
+        },
+    }
 }
 
 impl<
     F: Fn(Global, &TokenStream<'_>, Nesting, usize, usize) -> Result<(Expr, usize), Refusal>,
 > Reader<F> {
+    /// `[ ":" [ expr ] ]`
+    #[tactic(auto, unfolding(crate::specs::Parser::read_last_bound, qt_lookahead::specs::OneToken::read_exactly, crate::specs::Parser::read_expression_or_none))]
+    pub fn last_bound(
+        &self,
+        tokens: &TokenStream<'_>,
+        nesting: Nesting,
+        at: usize,
+    ) -> Result<(Option<Option<Expr>>, usize), Refusal>
+        requires { Nests (nesting.levels + 1) (F.pre self.now.operation) (F.post self.now.operation) }
+        ensures { Says (read_last_bound tokens.now nesting.levels nesting.outer at) result }
+    {
+        if !next_is(tokens, at, Terminal::Colon) {
+            return Ok((None, at));
+        }
+        let at = exactly(tokens, at, Terminal::Colon)?;
+        let (end, at) = self.expression_or_none(tokens, nesting, at)?;
+        Ok((Some(end), at))
+    }
+
+    /// `expr [ ":" [ expr ] ]`
+    #[tactic(auto, unfolding(crate::specs::Parser::read_bounds, crate::specs::Parser::read_last_bound, crate::specs::Parser::read_expression))]
+    pub fn bounds(
+        &self,
+        tokens: &TokenStream<'_>,
+        nesting: Nesting,
+        at: usize,
+    ) -> Result<((Expr, Option<Option<Expr>>), usize), Refusal>
+        requires { Nests (nesting.levels + 1) (F.pre self.now.operation) (F.post self.now.operation) }
+        ensures { Says (read_bounds tokens.now nesting.levels nesting.outer at) result }
+    {
+        let (first, at) = self.expression(tokens, nesting, at)?;
+        paired(first, self.last_bound(tokens, nesting, at))
+    }
+
+    /// `[ expr [ ":" [ expr ] ] ]`
+    #[tactic(auto, unfolding(crate::specs::Parser::read_bounds_or_none, crate::specs::Parser::read_bounds))]
+    pub fn bounds_or_none(
+        &self,
+        tokens: &TokenStream<'_>,
+        nesting: Nesting,
+        at: usize,
+    ) -> Result<(Option<(Expr, Option<Option<Expr>>)>, usize), Refusal>
+        requires { Nests (nesting.levels + 1) (F.pre self.now.operation) (F.post self.now.operation) }
+        ensures { Says (read_bounds_or_none tokens.now nesting.levels nesting.outer at) result }
+    {
+        if !begins_expression(tokens.terminal(at)) {
+            return Ok((None, at));
+        }
+        let (bounds, at) = self.bounds(tokens, nesting, at)?;
+        Ok((Some(bounds), at))
+    }
+
     /// A range from its colon on, behind its start.
-    #[tactic(auto, unfolding(crate::specs::Parser::read_behind_start, crate::specs::Parser::read_exactly, crate::specs::Parser::read_expression, crate::specs::Parser::read_expression_or_none))]
+    #[tactic(auto, unfolding(crate::specs::Parser::read_behind_start, crate::specs::Parser::read_bounds_or_none, qt_lookahead::specs::OneToken::read_exactly))]
     pub fn behind_start(
         &self,
         tokens: &TokenStream<'_>,
@@ -45,22 +115,8 @@ impl<
         ensures { Says (read_behind_start tokens.now nesting.levels nesting.outer start at) result }
     {
         let (start, at) = ended(tokens, start, at, Terminal::Colon)?;
-        if !begins_expression(tokens.terminal(at)) {
-            let (step, end) = (None, None);
-            return Ok((Range { start, step, end }, at));
-        }
-        let ((start, second), at) = paired(start, self.expression(tokens, nesting, at))?;
-        if !next_is(tokens, at, Terminal::Colon) {
-            let (step, end) = (None, Some(second));
-            return Ok((Range { start, step, end }, at));
-        }
-        let (read, at) = ended(tokens, (start, second), at, Terminal::Colon)?;
-        let (((start, second), end), at) = paired(
-            read,
-            self.expression_or_none(tokens, nesting, at),
-        )?;
-        let step = Some(second);
-        Ok((Range { start, step, end }, at))
+        let ((start, bounds), at) = paired(start, self.bounds_or_none(tokens, nesting, at))?;
+        Ok((range_of(start, bounds), at))
     }
 
     /// `[ expr ] ":" [ expr ] | [ expr ] ":" expr ":" [ expr ]`
@@ -204,7 +260,7 @@ impl<
     }
 
     /// `"[" index { "," index } "]"`
-    #[tactic(auto, unfolding(crate::specs::Parser::read_indexes, crate::specs::Parser::read_index_list, crate::specs::Parser::read_exactly))]
+    #[tactic(auto, unfolding(crate::specs::Parser::read_indexes, crate::specs::Parser::read_index_list, qt_lookahead::specs::OneToken::read_exactly))]
     pub fn indexes(
         &self,
         tokens: &TokenStream<'_>,

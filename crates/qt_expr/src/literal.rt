@@ -3,8 +3,8 @@
 ghost use Rattle.qt_grammar.specs.Outcome.{Says};
 ghost use Rattle.qt_expr.specs.Parser.{read_literal};
 
-use crate::one_token::behind;
 use qt_grammar::refusal::Refusal;
+use qt_lookahead::one_token::behind;
 use qt_terminals::stream::TokenStream;
 use qt_terminals::terminal::Terminal;
 use qt_tree::expression::Expr;

@@ -2,14 +2,13 @@
 
 ghost use Rattle.std.specs.Prelude.{◌≤◌};
 ghost use Rattle.qt_terminals.specs.Terminals.{terminals};
-ghost use Rattle.qt_grammar.specs.Spelling.{language_limits};
-ghost use Rattle.qt_expr.specs.Refusals.{AnswersExpression};
+ghost use Rattle.qt_grammar.specs.Reading.{language_limits};
+ghost use Rattle.qt_expr.specs.Answers.{AnswersExpression};
 
 use crate::expression::expression;
-use crate::nesting::Nesting;
-use crate::refusal::{ParseRefusal, located};
-use qt_grammar::maximum::MOST_LEVELS;
 use qt_lex::tokens::Token;
+use qt_lookahead::nesting::MOST_LEVELS;
+use qt_lookahead::refusal::{ParseRefusal, located};
 use qt_terminals::stream::TokenStream;
 use qt_tree::expression::Expr;
 use std::alloc::Global;
@@ -24,11 +23,7 @@ fn expression_at(
     requires { depth ≤ language_limits.levels }
     ensures { AnswersExpression tokens.now depth at result }
 {
-    let nesting = Nesting {
-        levels: MOST_LEVELS - depth as usize,
-        outer: None,
-    };
-    match expression(alloc, tokens, nesting, at) {
+    match expression(alloc, tokens, MOST_LEVELS - depth as usize, at) {
         Ok(found) => Ok(found),
         Err(refusal) => Err(located(tokens, refusal)),
     }

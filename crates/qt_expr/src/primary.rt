@@ -1,21 +1,19 @@
 //! Primaries, and factors: primaries with their unary operators and exponents.
 
-ghost use Rattle.std.specs.Prelude.{◌≡◌, ◌+◌, ◌≤◌, length, None, Some};
-ghost use Rattle.qt_terminals.specs.declared.terminal.Terminal.TheVariants as w;
-ghost use Rattle.qt_grammar.specs.Form as form;
-ghost use Rattle.qt_grammar.specs.Sorts as sorts;
-ghost use Rattle.qt_grammar.specs.Language as language;
+ghost use Rattle.std.specs.Prelude.{◌≡◌, ◌+◌, ◌≤◌, None, Some};
 ghost use Rattle.qt_grammar.specs.Outcome.{Says};
 ghost use Rattle.qt_expr.specs.Nested.{Nests};
-ghost use Rattle.qt_expr.specs.Parser.{read_cast, read_dimension, read_factor, read_in_size_of, read_name, read_power, read_primary, read_scalar, read_size_of, read_sized};
+ghost use Rattle.qt_expr.specs.Parser.{read_cast, read_dimension, read_dimension_or_none, read_factor, read_in_size_of, read_measured_name, read_name, read_power, read_primary, read_scalar, read_size_of, read_sized};
 
+use crate::binary::binary;
 use crate::literal::literal;
-use crate::nesting::{Nesting, too_deep};
-use crate::one_token::{behind, exactly, label, next_is};
-use crate::operator::{before_operator, binary, operator, unary_operator};
-use crate::pieces::{boxed, ended, paired};
+use crate::names::label;
 use crate::reader::Reader;
 use qt_grammar::refusal::Refusal;
+use qt_lookahead::nesting::{Nesting, too_deep};
+use qt_lookahead::one_token::{behind, exactly, next_is};
+use qt_lookahead::operator::{before_operator, operator, unary_operator};
+use qt_lookahead::pieces::{boxed, ended, paired};
 use qt_terminals::stream::TokenStream;
 use qt_terminals::terminal::Terminal;
 use qt_tree::expression::{Expr, InfixOperator, Scalar};
@@ -40,8 +38,8 @@ impl<
         if !next_is(tokens, at, Terminal::LeftBracket) {
             return Ok((None, at));
         }
-        let (size, at) = self.size(tokens, nesting, at)?;
-        Ok((Some(Boxed::new(self.alloc, size)?), at))
+        let (size, at) = boxed(self.alloc, self.size(tokens, nesting, at))?;
+        Ok((Some(size), at))
     }
 
     /// `"bool" | ( "bit" | "int" | "uint" | "angle" ) [ "[" expr "]" ]`
@@ -94,8 +92,24 @@ impl<
         Ok((Expr::Cast { to, operand }, at))
     }
 
+    /// `"(" Name [ "," expr ] ")"`
+    #[tactic(auto, unfolding(crate::specs::Parser::read_measured_name, crate::specs::Parser::read_in_size_of, qt_lookahead::specs::OneToken::read_exactly))]
+    pub fn measured_name(
+        &self,
+        tokens: &TokenStream<'_>,
+        nesting: Nesting,
+        at: usize,
+    ) -> Result<((Label, Option<Boxed<Expr>>), usize), Refusal>
+        requires { Nests nesting.levels (F.pre self.now.operation) (F.post self.now.operation) }
+        ensures { Says (read_measured_name tokens.now nesting.levels nesting.outer at) result }
+    {
+        let at = exactly(tokens, at, Terminal::LeftParen)?;
+        let (inner, at) = self.in_size_of(tokens, nesting, at)?;
+        ended(tokens, inner, at, Terminal::RightParen)
+    }
+
     /// `"sizeof" "(" Name [ "," expr ] ")"`
-    #[tactic(auto, unfolding(crate::specs::Parser::read_size_of, crate::specs::Parser::read_in_size_of, crate::specs::Parser::read_exactly))]
+    #[tactic(auto, unfolding(crate::specs::Parser::read_size_of, crate::specs::Parser::read_measured_name, qt_lookahead::specs::OneToken::read_exactly))]
     pub fn size_of(
         &self,
         tokens: &TokenStream<'_>,
@@ -106,9 +120,7 @@ impl<
         ensures { Says (read_size_of tokens.now nesting.levels nesting.outer at) result }
     {
         let at = exactly(tokens, at, Terminal::SizeOf)?;
-        let at = exactly(tokens, at, Terminal::LeftParen)?;
-        let (inner, at) = self.in_size_of(tokens, nesting, at)?;
-        let ((name, dimension), at) = ended(tokens, inner, at, Terminal::RightParen)?;
+        let ((name, dimension), at) = self.measured_name(tokens, nesting, at)?;
         Ok((Expr::SizeOf { name, dimension }, at))
     }
 
@@ -129,8 +141,27 @@ impl<
         self.dimension(tokens, nesting.below(), at)
     }
 
+    /// `[ "," expr ]`
+    #[tactic(auto, unfolding(crate::specs::Parser::read_dimension_or_none, qt_lookahead::specs::OneToken::read_exactly, crate::specs::Parser::read_expression))]
+    pub fn dimension_or_none(
+        &self,
+        tokens: &TokenStream<'_>,
+        nesting: Nesting,
+        at: usize,
+    ) -> Result<(Option<Boxed<Expr>>, usize), Refusal>
+        requires { Nests (nesting.levels + 1) (F.pre self.now.operation) (F.post self.now.operation) }
+        ensures { Says (read_dimension_or_none tokens.now nesting.levels nesting.outer at) result }
+    {
+        if !next_is(tokens, at, Terminal::Comma) {
+            return Ok((None, at));
+        }
+        let at = exactly(tokens, at, Terminal::Comma)?;
+        let (dimension, at) = boxed(self.alloc, self.expression(tokens, nesting, at))?;
+        Ok((Some(dimension), at))
+    }
+
     /// `Name [ "," expr ]`
-    #[tactic(auto, unfolding(crate::specs::Parser::read_dimension, crate::specs::Parser::read_label, crate::specs::Parser::read_exactly, crate::specs::Parser::read_expression))]
+    #[tactic(auto, unfolding(crate::specs::Parser::read_dimension, crate::specs::Parser::read_label, crate::specs::Parser::read_dimension_or_none))]
     pub fn dimension(
         &self,
         tokens: &TokenStream<'_>,
@@ -141,13 +172,7 @@ impl<
         ensures { Says (read_dimension tokens.now nesting.levels nesting.outer at) result }
     {
         let (name, at) = label(self.alloc, tokens, at)?;
-        if !next_is(tokens, at, Terminal::Comma) {
-            return Ok(((name, None), at));
-        }
-        let at = exactly(tokens, at, Terminal::Comma)?;
-        let (dimension, at) = self.expression(tokens, nesting, at)?;
-        let dimension = Boxed::new(self.alloc, dimension)?;
-        Ok(((name, Some(dimension)), at))
+        paired(name, self.dimension_or_none(tokens, nesting, at))
     }
 
     /// `Name { "[" index { "," index } "]" } | Name "(" [ exprs ] ")"`
@@ -191,8 +216,7 @@ impl<
     {
         match tokens.terminal(at) {
             Terminal::LeftParen => {
-                let (inner, at) = self.in_parentheses(tokens, nesting, at)?;
-                let inner = Boxed::new(self.alloc, inner)?;
+                let (inner, at) = boxed(self.alloc, self.in_parentheses(tokens, nesting, at))?;
                 Ok((Expr::Parenthesized { inner }, at))
             }
             Terminal::Name => self.name(tokens, nesting, at),
@@ -235,15 +259,14 @@ impl<
         requires { Nests nesting.levels (F.pre self.now.operation) (F.post self.now.operation) }
         ensures { Says (read_factor tokens.now nesting.levels nesting.outer at) result }
     {
-        let Some(exactly) = unary_operator(tokens.terminal(at)) else {
+        let Some(found) = unary_operator(tokens.terminal(at)) else {
             return self.power(tokens, nesting, at);
         };
         let at = operator(tokens, nesting, at)?;
-        let (operand, at) = self.unary(tokens, nesting, at)?;
-        let operand = Boxed::new(self.alloc, operand)?;
+        let (operand, at) = boxed(self.alloc, self.unary(tokens, nesting, at))?;
         Ok((
             Expr::Unary {
-                operator: exactly,
+                operator: found,
                 operand,
             },
             at,

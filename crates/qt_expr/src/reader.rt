@@ -9,11 +9,12 @@ ghost use Rattle.qt_grammar.specs.Outcome.{Says};
 ghost use Rattle.qt_expr.specs.Nested.{Nests};
 ghost use Rattle.qt_expr.specs.Parser.{read_any, read_arguments, read_expression, read_expression_or_none, read_expressions, read_in_parentheses, read_list, read_list_or_none, read_members, read_set, read_size, read_unary, rest_separated};
 
-use crate::nesting::{Nesting, too_deep};
-use crate::one_token::{begins_expression, behind, exactly, next_is};
-use crate::operator::STRENGTHS;
-use crate::pieces::ended;
 use qt_grammar::refusal::Refusal;
+use qt_lookahead::begins::begins_expression;
+use qt_lookahead::nesting::{Nesting, too_deep};
+use qt_lookahead::one_token::{behind, exactly, next_is};
+use qt_lookahead::operator::STRENGTHS;
+use qt_lookahead::pieces::ended;
 use qt_terminals::stream::TokenStream;
 use qt_terminals::terminal::Terminal;
 use qt_tree::expression::Expr;
@@ -141,7 +142,7 @@ impl<
     }
 
     /// `"(" expr ")"`
-    #[tactic(auto, unfolding(crate::specs::Parser::read_in_parentheses, crate::specs::Parser::read_any, crate::specs::Parser::read_exactly))]
+    #[tactic(auto, unfolding(crate::specs::Parser::read_in_parentheses, crate::specs::Parser::read_any, qt_lookahead::specs::OneToken::read_exactly))]
     pub fn in_parentheses(
         &self,
         tokens: &TokenStream<'_>,
@@ -157,7 +158,7 @@ impl<
     }
 
     /// `"[" expr "]"`
-    #[tactic(auto, unfolding(crate::specs::Parser::read_size, crate::specs::Parser::read_any, crate::specs::Parser::read_exactly))]
+    #[tactic(auto, unfolding(crate::specs::Parser::read_size, crate::specs::Parser::read_any, qt_lookahead::specs::OneToken::read_exactly))]
     pub fn size(
         &self,
         tokens: &TokenStream<'_>,
@@ -232,7 +233,7 @@ impl<
     }
 
     /// `"(" [ exprs ] ")"`
-    #[tactic(auto, unfolding(crate::specs::Parser::read_arguments, crate::specs::Parser::read_list_or_none, crate::specs::Parser::read_exactly))]
+    #[tactic(auto, unfolding(crate::specs::Parser::read_arguments, crate::specs::Parser::read_list_or_none, qt_lookahead::specs::OneToken::read_exactly))]
     pub fn arguments(
         &self,
         tokens: &TokenStream<'_>,
@@ -262,7 +263,7 @@ impl<
     }
 
     /// `"{" exprs "}"`
-    #[tactic(auto, unfolding(crate::specs::Parser::read_set, crate::specs::Parser::read_members, crate::specs::Parser::read_exactly))]
+    #[tactic(auto, unfolding(crate::specs::Parser::read_set, crate::specs::Parser::read_members, qt_lookahead::specs::OneToken::read_exactly))]
     pub fn set(
         &self,
         tokens: &TokenStream<'_>,

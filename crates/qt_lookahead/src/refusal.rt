@@ -1,7 +1,7 @@
 //! Why tokens aren't read, by place.
 
 ghost use Rattle.std.specs.Prelude.{◌≡◌};
-ghost use Rattle.qt_expr.specs.Refusals.{located};
+ghost use Rattle.qt_lookahead.specs.Refusals.{located};
 
 use qt_grammar::refusal::Refusal;
 use qt_outside::faults;
@@ -25,7 +25,7 @@ pub enum ParseRefusal {
 
 impl From<faults::OutOfMemory> for ParseRefusal {
     ghost use Rattle.std.specs.Prelude.{◌≡◌};
-    ghost use Rattle.qt_expr.specs.declared.refusal.ParseRefusal.TheVariants.{OutOfMemory};
+    ghost use Rattle.qt_lookahead.specs.declared.refusal.ParseRefusal.TheVariants.{OutOfMemory};
 
     ghost from_gives = { λ _ e. e ≡ OutOfMemory };
 
@@ -36,7 +36,7 @@ impl From<faults::OutOfMemory> for ParseRefusal {
 
 impl From<AllocError> for ParseRefusal {
     ghost use Rattle.std.specs.Prelude.{◌≡◌};
-    ghost use Rattle.qt_expr.specs.declared.refusal.ParseRefusal.TheVariants.{OutOfMemory};
+    ghost use Rattle.qt_lookahead.specs.declared.refusal.ParseRefusal.TheVariants.{OutOfMemory};
 
     ghost from_gives = { λ _ e. e ≡ OutOfMemory };
 
@@ -47,7 +47,7 @@ impl From<AllocError> for ParseRefusal {
 
 impl<T: Drop> From<AllocFailed<T>> for ParseRefusal {
     ghost use Rattle.std.specs.Prelude.{◌≡◌};
-    ghost use Rattle.qt_expr.specs.declared.refusal.ParseRefusal.TheVariants.{OutOfMemory};
+    ghost use Rattle.qt_lookahead.specs.declared.refusal.ParseRefusal.TheVariants.{OutOfMemory};
 
     ghost from_gives = { λ _ e. e ≡ OutOfMemory };
 

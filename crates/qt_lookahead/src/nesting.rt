@@ -1,12 +1,18 @@
-//! Where a form stands.
+//! Where a form stands, and the limits of the language.
 
-ghost use Rattle.std.specs.Prelude.{◌≡◌, ◌-◌, ◌<◌, if◌then◌else◌};
+ghost use Rattle.std.specs.Prelude.{◌≡◌, ◌-◌, ◌<◌, None, if◌then◌else◌};
 ghost use Rattle.qt_terminals.specs.Terminals.{stream};
 ghost use Rattle.qt_grammar.specs.Form as form;
 ghost use Rattle.qt_grammar.specs.declared.refusal.Refusal.TheVariants.{Syntax, Nest};
 
 use qt_grammar::refusal::Refusal;
 use qt_terminals::stream::TokenStream;
+
+/// In how many parentheses, brackets, braces, bodies, unary operators and right sides of `**` a token stands at most.
+pub const MOST_LEVELS: usize = 64;
+
+/// How many operators an expression has at most that stands in no other.
+pub const MOST_OPERATORS: usize = 256;
 
 /// How many levels of nesting may still be opened below a form, and how many operators of the text stand before the outermost
 /// expression round it, which is `None` where no expression stands round it.
@@ -17,6 +23,17 @@ pub struct Nesting {
 }
 
 impl Nesting {
+    /// Where a form stands that stands in no expression.
+    pub fn outermost(levels: usize) -> Nesting
+        ensures levels { result.levels ≡ levels }
+        ensures outer { result.outer ≡ None }
+    {
+        Nesting {
+            levels,
+            outer: None,
+        }
+    }
+
     /// Where the parts of an expression stand that begins at this token: operators are counted from there on, unless it stands
     /// in another expression.
     pub fn begun(self, tokens: &TokenStream<'_>, at: usize) -> Nesting

@@ -1,25 +1,22 @@
 //! Operators.
 
-ghost use Rattle.std.specs.Prelude.{◌≡◌, ◌+◌, ◌<◌, ◌≤◌, true, false, [], ◌∷◌, IfOk, IfErr, IfSome, IfNone};
+ghost use Rattle.std.specs.Prelude.{◌≡◌, ◌+◌, ◌<◌, true, false, [], ◌∷◌, IfOk, IfErr, IfSome, IfNone};
 ghost use Rattle.qt_terminals.specs.Alphabet as alphabet;
 ghost use Rattle.qt_terminals.specs.Terminals.{stream};
 ghost use Rattle.qt_terminals.specs.declared.terminal.Terminal.TheVariants as w;
-ghost use Rattle.qt_tree.specs.declared.expression.Expr.TheVariants as e;
+ghost use Rattle.qt_grammar.specs.Form as form;
 ghost use Rattle.qt_grammar.specs.Form.{member, terminal_at};
 ghost use Rattle.qt_grammar.specs.Language as language;
-ghost use Rattle.qt_grammar.specs.Form as form;
 ghost use Rattle.qt_grammar.specs.declared.refusal.Refusal.TheVariants.{Nest};
-ghost use Rattle.qt_expr.specs.Parser.{cap};
+ghost use Rattle.qt_lookahead.specs.OneToken.{cap};
 
-use crate::nesting::Nesting;
+use crate::nesting::{MOST_OPERATORS, Nesting};
 use crate::one_token::behind;
 use qt_grammar::maximum::MOST_OPERATORS;
 use qt_grammar::refusal::Refusal;
 use qt_terminals::stream::TokenStream;
 use qt_terminals::terminal::Terminal;
-use qt_tree::expression::{Expr, InfixOperator, PrefixOperator};
-use sqlite_items::Boxed;
-use std::alloc::{AllocError, Global};
+use qt_tree::expression::{CompoundOperator, InfixOperator, PrefixOperator};
 
 /// How many strengths of binary operators there are below that of `**`.
 pub const STRENGTHS: usize = 10;
@@ -70,6 +67,29 @@ pub fn unary_operator(terminal: Terminal) -> Option<PrefixOperator>
     }
 }
 
+/// The operator of the compound assignment whose terminal stands here.
+pub fn compound_operator(tokens: &TokenStream<'_>, at: usize) -> Option<CompoundOperator>
+    ensures some { IfSome result (λ operator. operator ≡ language.compound_op (stream tokens.now at).terminal) }
+    ensures yes { IfSome result (λ operator. member (terminal_at (stream tokens.now) at) language.compounds ≡ true) }
+    ensures within { IfSome result (λ operator. 0 < terminal_at (stream tokens.now) at) }
+    ensures none { IfNone result (member (terminal_at (stream tokens.now) at) language.compounds ≡ false) }
+{
+    match tokens.terminal(at) {
+        Terminal::PlusAssign => Some(CompoundOperator::Add),
+        Terminal::MinusAssign => Some(CompoundOperator::Sub),
+        Terminal::StarAssign => Some(CompoundOperator::Mul),
+        Terminal::SlashAssign => Some(CompoundOperator::Div),
+        Terminal::PercentAssign => Some(CompoundOperator::Rem),
+        Terminal::StarStarAssign => Some(CompoundOperator::Pow),
+        Terminal::AndAssign => Some(CompoundOperator::And),
+        Terminal::OrAssign => Some(CompoundOperator::Or),
+        Terminal::CaretAssign => Some(CompoundOperator::Xor),
+        Terminal::ShiftLeftAssign => Some(CompoundOperator::Shl),
+        Terminal::ShiftRightAssign => Some(CompoundOperator::Shr),
+        _ => None,
+    }
+}
+
 /// The place behind an operator; Nest where it is one too many in the outermost expression.
 pub fn operator(tokens: &TokenStream<'_>, nesting: Nesting, at: usize) -> Result<usize, Refusal>
     requires { 0 < terminal_at (stream tokens.now) at }
@@ -104,32 +124,4 @@ pub fn before_operator<T: Drop>(
 {
     let behind = operator(tokens, nesting, at)?;
     Ok((read, behind))
-}
-
-/// Both values in boxes.
-fn both_boxed<A: Drop, B: Drop>(
-    alloc: Global,
-    left: A,
-    right: B,
-) -> Result<(Boxed<A>, Boxed<B>), AllocError>
-    ensures { IfOk result (λ both. both ≡ (left, right)) }
-{
-    Ok((Boxed::new(alloc, left)?, Boxed::new(alloc, right)?))
-}
-
-/// A binary operator between its operands.
-pub fn binary(
-    alloc: Global,
-    operator: InfixOperator,
-    left: Expr,
-    right: Expr,
-) -> Result<Expr, AllocError>
-    ensures { IfOk result (λ made. made ≡ e.Binary operator left right) }
-{
-    let (left, right) = both_boxed(alloc, left, right)?;
-    Ok(Expr::Binary {
-        operator,
-        left,
-        right,
-    })
 }

@@ -6,10 +6,11 @@
 ghost use Rattle.std.specs.Prelude.{◌≡◌, ◌<◌};
 ghost use Rattle.qt_terminals.specs.Alphabet as alphabet;
 ghost use Rattle.qt_terminals.specs.Terminals.{stream};
+ghost use Rattle.qt_terminals.specs.declared.terminal.Terminal.TheVariants as w;
 ghost use Rattle.qt_grammar.specs.Outcome.{Says};
-ghost use Rattle.qt_expr.specs.Parser.{Adds, Ends, read_exactly};
+ghost use Rattle.qt_lookahead.specs.OneToken.{Adds, Ends, read_exactly};
 
-use crate::one_token::exactly;
+use crate::one_token::{behind, exactly, next_is};
 use qt_grammar::refusal::Refusal;
 use qt_terminals::stream::TokenStream;
 use qt_terminals::terminal::Terminal;
@@ -17,7 +18,7 @@ use sqlite_items::Boxed;
 use std::alloc::Global;
 
 /// What was read, and the place behind the token of that terminal which ends it; Syntax where another stands there.
-#[tactic(auto, unfolding(crate::specs::Parser::read_exactly))]
+#[tactic(auto, unfolding(crate::specs::OneToken::read_exactly))]
 pub fn ended<T: Drop>(
     tokens: &TokenStream<'_>,
     read: T,
@@ -29,6 +30,21 @@ pub fn ended<T: Drop>(
 {
     let at = exactly(tokens, at, terminal)?;
     Ok((read, at))
+}
+
+/// What was read of a statement, and the place behind its semicolon; Syntax where another token stands there.
+#[tactic(auto, unfolding(crate::specs::OneToken::read_exactly))]
+pub fn with_semicolon<T: Drop>(
+    tokens: &TokenStream<'_>,
+    statement: T,
+    at: usize,
+) -> Result<(T, usize), Refusal>
+    ensures { Ends (read_exactly tokens.now (alphabet.code w.Semicolon) at) (stream tokens.now at) statement result }
+{
+    if !next_is(tokens, at, Terminal::Semicolon) {
+        return Err(Refusal::Syntax(at));
+    }
+    Ok((statement, behind(tokens, at)))
 }
 
 /// What was read first, together with what was read behind it, or why that wasn't read.

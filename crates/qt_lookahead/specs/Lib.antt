@@ -1,0 +1,2 @@
+pub mod OneToken
+pub mod Refusals
