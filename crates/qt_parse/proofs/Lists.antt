@@ -19,7 +19,7 @@ use Rattle.qt_grammar.specs.Language.{some, or_none, listed}
 use Rattle.qt_grammar.specs.Language as g
 use Rattle.qt_expr.specs.Parser.{reading, rest_separated, rest_some}
 use Rattle.qt_expr.proofs.Loops.{separated_goes_on, some_goes_on}
-use Rattle.qt_parse.specs.Parser.{modifier_sign, read_operand, read_modifier_sign, read_statement, read_entry, read_gate_line, read_parameter, read_global, read_items}
+use Rattle.qt_parse.specs.Parser.{modifier_with_at, read_operand, read_modifier_with_at, read_statement, read_entry, read_gate_line, read_parameter, read_global, read_items}
 
 module _ (tokens : List PlacedTerminal) (levels : ℕ) where
   pub operands_go_on : (k : Terminal) (n turn : ℕ) (all : List Operand) (at : ℕ) → turn < n → member (terminal_at (stream tokens) at) (code k ∷ []) ≡ true
@@ -27,10 +27,10 @@ module _ (tokens : List PlacedTerminal) (levels : ℕ) where
   unfolding read_operand
   operands_go_on k n turn all at more e = separated_goes_on tokens {s = operand} g.an_operand levels None k n turn all at more e
 
-  pub modifiers_go_on : (n turn : ℕ) (all : List Modifier) (at : ℕ) → turn < n → member (terminal_at (stream tokens) at) (first {s = modifier} modifier_sign) ≡ true
-      → rest_some tokens {s = modifier} modifier_sign levels None (n - turn) all at ≡ and_then (read_modifier_sign tokens levels at) (λ x m. rest_some tokens {s = modifier} modifier_sign levels None (n - (turn + 1)) (all ++ x ∷ []) m)
-  unfolding read_modifier_sign
-  modifiers_go_on n turn all at more e = some_goes_on tokens {s = modifier} modifier_sign levels None n turn all at more e
+  pub modifiers_go_on : (n turn : ℕ) (all : List Modifier) (at : ℕ) → turn < n → member (terminal_at (stream tokens) at) (first {s = modifier} modifier_with_at) ≡ true
+      → rest_some tokens {s = modifier} modifier_with_at levels None (n - turn) all at ≡ and_then (read_modifier_with_at tokens levels at) (λ x m. rest_some tokens {s = modifier} modifier_with_at levels None (n - (turn + 1)) (all ++ x ∷ []) m)
+  unfolding read_modifier_with_at
+  modifiers_go_on n turn all at more e = some_goes_on tokens {s = modifier} modifier_with_at levels None n turn all at more e
 
   pub statements_go_on : (n turn : ℕ) (all : List Statement) (at : ℕ) → turn < n → member (terminal_at (stream tokens) at) (first {s = statement} g.a_statement) ≡ true
       → rest_some tokens {s = statement} g.a_statement levels None (n - turn) all at ≡ and_then (read_statement tokens levels at) (λ x m. rest_some tokens {s = statement} g.a_statement levels None (n - (turn + 1)) (all ++ x ∷ []) m)

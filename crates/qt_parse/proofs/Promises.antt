@@ -12,8 +12,8 @@ use Rattle.qt_grammar.specs.Outcome.{Tells}
 use Rattle.qt_grammar.specs.Spelling.{language_limits}
 use Rattle.qt_grammar.specs.Promise.{Parses, OnlyProgram, CouldBegin}
 use Rattle.qt_grammar.proofs.Parsers.{program_parses, barrier_begins, barrier_refused}
-use Rattle.qt_expr.specs.declared.refusal.ParseRefusal.TheVariants.{Syntax, NotInProfile}
-use Rattle.qt_expr.specs.Refusals.{stopped_by, located}
+use Rattle.qt_lookahead.specs.declared.refusal.ParseRefusal.TheVariants.{Syntax, NotInProfile}
+use Rattle.qt_lookahead.specs.Refusals.{stopped_by, located}
 use Rattle.qt_parse.specs.Parser.{read_whole}
 use Rattle.qt_parse.specs.Promise.{IsOfFeature, StopsAt, TooDeepAt, Refused}
 

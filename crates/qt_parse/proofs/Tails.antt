@@ -25,7 +25,8 @@ use Rattle.qt_grammar.specs.declared.refusal.Refusal.TheVariants.{Syntax}
 use Rattle.qt_grammar.specs.Outcome.{Outcome, and_then}
 use Rattle.qt_grammar.specs.Language.{◌⊕◌}
 use Rattle.qt_grammar.specs.Language as g
-use Rattle.qt_expr.specs.Parser.{reading, read_exactly, read_label, read_expression, read_all_indexes}
+use Rattle.qt_lookahead.specs.OneToken.{read_exactly}
+use Rattle.qt_expr.specs.Parser.{reading, read_label, read_expression, read_all_indexes}
 use Rattle.qt_parse.specs.Parser.{applied, read_assigned, read_compound, read_statement_form, read_keyword_alone, read_behind_first_name, read_by_name, read_global, read_include, read_interface, read_qubit_item, read_register_item, read_array_item, read_gate_item, read_definition, read_statement_item, read_versions, read_items, read_whole}
 
 -- ---- behind a name at the beginning of a statement
@@ -237,12 +238,12 @@ abbrev pub others : List (Form form)
 others = g.declaration ∷ g.bit_register ∷ g.constant ∷ g.alias ∷ g.by_name ∷ g.gate_statement ∷ g.measurement ∷ g.reset ∷ g.barrier
     ∷ g.if_else ∷ g.while_loop ∷ g.for_loop ∷ g.keyword_alone w.Break s.Break ∷ g.keyword_alone w.Continue s.Continue ∷ g.return ∷ []
 
--- the words that they begin with
-abbrev pub other_words : List Terminal
-other_words = w.Bool ∷ w.Bit ∷ w.Int ∷ w.Uint ∷ w.Angle ∷ w.Creg ∷ w.Const ∷ w.Let ∷ w.Name ∷ w.Inv ∷ w.Pow ∷ w.Ctrl ∷ w.NegCtrl ∷ w.GPhase ∷ w.Measure
+-- the terminals that they begin with
+abbrev pub other_terminals : List Terminal
+other_terminals = w.Bool ∷ w.Bit ∷ w.Int ∷ w.Uint ∷ w.Angle ∷ w.Creg ∷ w.Const ∷ w.Let ∷ w.Name ∷ w.Inv ∷ w.Pow ∷ w.Ctrl ∷ w.NegCtrl ∷ w.GPhase ∷ w.Measure
     ∷ w.Reset ∷ w.Barrier ∷ w.If ∷ w.While ∷ w.For ∷ w.Break ∷ w.Continue ∷ w.Return ∷ []
 
-pub end_is : (tokens : List PlacedTerminal) (levels at : ℕ) → DiffersFrom ((stream tokens at).terminal) other_words
+pub end_is : (tokens : List PlacedTerminal) (levels at : ℕ) → DiffersFrom ((stream tokens at).terminal) other_terminals
     → read_statement_form tokens levels at ≡ read_keyword_alone tokens w.EndWord s.End at
 unfolding read_statement_form read_keyword_alone
-end_is tokens levels at d = skips tokens levels at {s = form} others (g.keyword_alone w.EndWord s.End) (none_of ((stream tokens at).terminal) other_words d)
+end_is tokens levels at d = skips tokens levels at {s = form} others (g.keyword_alone w.EndWord s.End) (none_of ((stream tokens at).terminal) other_terminals d)

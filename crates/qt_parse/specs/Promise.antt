@@ -11,8 +11,8 @@ use Rattle.qt_grammar.specs.Sorts.{program}
 use Rattle.qt_grammar.specs.Language.{whole}
 use Rattle.qt_grammar.specs.Spelling.{language_limits}
 use Rattle.qt_grammar.specs.Promise.{NoProgram, FirstTooDeep, CouldBegin}
-use Rattle.qt_expr.specs.declared.refusal.ParseRefusal.{ParseRefusal}
-use Rattle.qt_expr.specs.declared.refusal.ParseRefusal.TheVariants.{Syntax, Nest, NotInProfile, OutOfMemory}
+use Rattle.qt_lookahead.specs.declared.refusal.ParseRefusal.{ParseRefusal}
+use Rattle.qt_lookahead.specs.declared.refusal.ParseRefusal.TheVariants.{Syntax, Nest, NotInProfile, OutOfMemory}
 
 module _ (all : List PlacedTerminal) where
   -- the token at place n of the list is of a feature that the profile leaves out: by its terminal, or as an `@` where a statement,

@@ -6,24 +6,26 @@ ghost use Rattle.qt_grammar.specs.Sorts.{entry};
 ghost use Rattle.qt_grammar.specs.Language as g;
 ghost use Rattle.qt_grammar.specs.Outcome.{Says};
 ghost use Rattle.qt_expr.specs.Parser.{rest_separated};
-ghost use Rattle.qt_parse.specs.Parser.{read_list, read_entries, read_entry_list, read_entry, read_in_array, read_element_and_lengths, read_array_type, read_array_value, read_array_item};
+ghost use Rattle.qt_parse.specs.Parser.{read_list, read_entries, read_entry_list, read_entry, read_in_array, read_element_and_lengths, read_array_value, read_array_item, read_array_parts, read_element_in_brackets, read_name_and_list};
 
-use crate::lookahead::{begins_entry, begins_scalar};
 use qt_expr::expression::{expression, expressions, scalar};
-use qt_expr::nesting::{Nesting, too_deep};
-use qt_expr::one_token::{behind, exactly, label, next_is};
-use qt_expr::pieces::{ended, paired};
+use qt_expr::names::label;
 use qt_grammar::refusal::Refusal;
+use qt_lookahead::begins::{begins_entry, begins_scalar};
+use qt_lookahead::nesting::too_deep;
+use qt_lookahead::one_token::{behind, exactly, next_is};
+use qt_lookahead::pieces::{ended, paired, with_semicolon};
 use qt_terminals::stream::TokenStream;
 use qt_terminals::terminal::Terminal;
 use qt_tree::expression::{Expr, Scalar};
+use qt_tree::label::Label;
 use qt_tree::place::Place;
 use qt_tree::program::{ArrayItem, Item, ListItem};
 use sqlite_items::Items;
 use std::alloc::Global;
 
 /// `list = "{" item { "," item } "}"`
-#[tactic(auto, unfolding(crate::specs::Parser::read_list, crate::specs::Parser::read_entries, qt_expr::specs::Parser::read_exactly))]
+#[tactic(auto, unfolding(crate::specs::Parser::read_list, crate::specs::Parser::read_entries, qt_lookahead::specs::OneToken::read_exactly))]
 #[cycle(entry)]
 fn list(
     alloc: Global,
@@ -35,8 +37,7 @@ fn list(
 {
     let at = exactly(tokens, at, Terminal::LeftBrace)?;
     let (all, at) = entries(alloc, tokens, levels, at)?;
-    let at = exactly(tokens, at, Terminal::RightBrace)?;
-    Ok((all, at))
+    ended(tokens, all, at, Terminal::RightBrace)
 }
 
 /// What stands in the braces of a list, one level deeper.
@@ -113,20 +114,12 @@ fn entry(
         let (items, at) = list(alloc, tokens, levels, at)?;
         return Ok((ListItem::List { items }, at));
     }
-    let (value, at) = expression(
-        alloc,
-        tokens,
-        Nesting {
-            levels,
-            outer: None,
-        },
-        at,
-    )?;
+    let (value, at) = expression(alloc, tokens, levels, at)?;
     Ok((ListItem::Value { value }, at))
 }
 
 /// `[ "=" list ]`
-#[tactic(auto, unfolding(crate::specs::Parser::read_array_value, crate::specs::Parser::read_list, qt_expr::specs::Parser::read_exactly))]
+#[tactic(auto, unfolding(crate::specs::Parser::read_array_value, crate::specs::Parser::read_list, qt_lookahead::specs::OneToken::read_exactly))]
 fn array_value(
     alloc: Global,
     tokens: &TokenStream<'_>,
@@ -144,7 +137,7 @@ fn array_value(
 }
 
 /// `scalar "," expr { "," expr }`
-#[tactic(auto, unfolding(crate::specs::Parser::read_element_and_lengths, qt_expr::specs::Parser::read_scalar, qt_expr::specs::Parser::read_expressions, qt_expr::specs::Parser::read_exactly))]
+#[tactic(auto, unfolding(crate::specs::Parser::read_element_and_lengths, qt_expr::specs::Parser::read_scalar, qt_expr::specs::Parser::read_expressions, qt_lookahead::specs::OneToken::read_exactly))]
 fn element_and_lengths(
     alloc: Global,
     tokens: &TokenStream<'_>,
@@ -153,25 +146,9 @@ fn element_and_lengths(
 ) -> Result<((Scalar, Items<Expr>), usize), Refusal>
     ensures { Says (read_element_and_lengths tokens.now levels at) result }
 {
-    let (scalar, at) = scalar(
-        alloc,
-        tokens,
-        Nesting {
-            levels,
-            outer: None,
-        },
-        at,
-    )?;
+    let (scalar, at) = scalar(alloc, tokens, levels, at)?;
     let (scalar, at) = ended(tokens, scalar, at, Terminal::Comma)?;
-    let dimensions = expressions(
-        alloc,
-        tokens,
-        Nesting {
-            levels,
-            outer: None,
-        },
-        at,
-    );
+    let dimensions = expressions(alloc, tokens, levels, at);
     paired(scalar, dimensions)
 }
 
@@ -191,24 +168,55 @@ fn in_array(
     element_and_lengths(alloc, tokens, levels - 1, at)
 }
 
-/// `"array" "[" scalar "," expr { "," expr } "]"`
-#[tactic(auto, unfolding(crate::specs::Parser::read_array_type, crate::specs::Parser::read_in_array, qt_expr::specs::Parser::read_exactly))]
-fn array_type(
+/// `"[" scalar "," expr { "," expr } "]"`
+#[tactic(auto, unfolding(crate::specs::Parser::read_element_in_brackets, crate::specs::Parser::read_in_array, qt_lookahead::specs::OneToken::read_exactly))]
+fn element_in_brackets(
     alloc: Global,
     tokens: &TokenStream<'_>,
     levels: usize,
     at: usize,
 ) -> Result<((Scalar, Items<Expr>), usize), Refusal>
-    ensures { Says (read_array_type tokens.now levels at) result }
+    ensures { Says (read_element_in_brackets tokens.now levels at) result }
 {
-    let at = exactly(tokens, at, Terminal::Array)?;
     let at = exactly(tokens, at, Terminal::LeftBracket)?;
     let (inside, at) = in_array(alloc, tokens, levels, at)?;
     ended(tokens, inside, at, Terminal::RightBracket)
 }
 
+/// `Name [ "=" list ]`
+#[tactic(auto, unfolding(crate::specs::Parser::read_name_and_list, crate::specs::Parser::read_array_value, qt_expr::specs::Parser::read_label))]
+fn name_and_list(
+    alloc: Global,
+    tokens: &TokenStream<'_>,
+    levels: usize,
+    at: usize,
+) -> Result<((Label, Option<Items<ListItem>>), usize), Refusal>
+    ensures { Says (read_name_and_list tokens.now levels at) result }
+{
+    let (name, at) = label(alloc, tokens, at)?;
+    paired(name, array_value(alloc, tokens, levels, at))
+}
+
+/// The type of an array's items with its lengths, and its name with its value.
+type ArrayParts = ((Scalar, Items<Expr>), (Label, Option<Items<ListItem>>));
+
+/// `"array" "[" scalar "," expr { "," expr } "]" Name [ "=" list ]`
+#[tactic(auto, unfolding(crate::specs::Parser::read_array_parts, crate::specs::Parser::read_element_in_brackets, crate::specs::Parser::read_name_and_list, qt_lookahead::specs::OneToken::read_exactly))]
+fn array_parts(
+    alloc: Global,
+    tokens: &TokenStream<'_>,
+    levels: usize,
+    at: usize,
+) -> Result<(ArrayParts, usize), Refusal>
+    ensures { Says (read_array_parts tokens.now levels at) result }
+{
+    let at = exactly(tokens, at, Terminal::Array)?;
+    let (element, at) = element_in_brackets(alloc, tokens, levels, at)?;
+    paired(element, name_and_list(alloc, tokens, levels, at))
+}
+
 /// `"array" "[" scalar "," expr { "," expr } "]" Name [ "=" list ] ";"`
-#[tactic(auto, unfolding(crate::specs::Parser::read_array_item, crate::specs::Parser::read_array_type, crate::specs::Parser::read_array_value, qt_expr::specs::Parser::read_label, qt_expr::specs::Parser::read_exactly))]
+#[tactic(auto, unfolding(crate::specs::Parser::read_array_item, crate::specs::Parser::read_array_parts, qt_lookahead::specs::OneToken::read_exactly))]
 pub fn array_item(
     alloc: Global,
     tokens: &TokenStream<'_>,
@@ -218,15 +226,8 @@ pub fn array_item(
 ) -> Result<(Item, usize), Refusal>
     ensures { Says (read_array_item tokens.now levels place at) result }
 {
-    let (array_type, at) = array_type(alloc, tokens, levels, at)?;
-    let (declared, at) = paired(array_type, label(alloc, tokens, at))?;
-    let (parts, at) = paired(declared, array_value(alloc, tokens, levels, at))?;
-    let ((((scalar, dimensions), name), value), at) = ended(
-        tokens,
-        parts,
-        at,
-        Terminal::Semicolon,
-    )?;
+    let (parts, at) = array_parts(alloc, tokens, levels, at)?;
+    let (((scalar, dimensions), (name, value)), at) = with_semicolon(tokens, parts, at)?;
     let array = ArrayItem {
         place,
         scalar,

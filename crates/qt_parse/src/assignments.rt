@@ -1,71 +1,27 @@
 //! Assignments and calls: the statements that begin with a name.
 
-ghost use Rattle.std.specs.Prelude.{◌≡◌, ◌<◌, [], ◌∷◌, IfSome, IfNone, true, false};
-ghost use Rattle.qt_terminals.specs.Alphabet as alphabet;
-ghost use Rattle.qt_terminals.specs.Terminals.{stream};
-ghost use Rattle.qt_grammar.specs.Form.{member, terminal_at};
-ghost use Rattle.qt_grammar.specs.Lookahead.{first};
-ghost use Rattle.qt_grammar.specs.Language as g;
+ghost use Rattle.std.specs.Prelude.{◌≡◌, []};
 ghost use Rattle.qt_grammar.specs.Outcome.{Says};
 ghost use Rattle.qt_tree.specs.declared.statement.CalledGate.TheVariants as gate;
 ghost use Rattle.qt_parse.specs.Parser.{read_assigned, read_compound, read_call_operands, read_called, read_behind_first_name, read_by_name};
 
 use crate::operands::{first_value, operands};
 use qt_expr::expression::{all_indexes, arguments, expression};
-use qt_expr::nesting::Nesting;
-use qt_expr::one_token::{behind, exactly, label, next_is};
+use qt_expr::names::label;
 use qt_grammar::refusal::Refusal;
+use qt_lookahead::begins::begins_assignment;
+use qt_lookahead::one_token::{behind, next_is};
+use qt_lookahead::operator::compound_operator;
+use qt_lookahead::pieces::with_semicolon;
 use qt_terminals::stream::TokenStream;
 use qt_terminals::terminal::Terminal;
-use qt_tree::expression::{CompoundOperator, Expr};
+use qt_tree::expression::Expr;
 use qt_tree::label::Label;
 use qt_tree::statement::{CalledGate, GateCall, Operand, StatementForm, Target};
 use sqlite_items::Items;
 use std::alloc::Global;
 
-/// The operator of the compound assignment whose sign stands here.
-fn compound_operator(tokens: &TokenStream<'_>, at: usize) -> Option<CompoundOperator>
-    ensures some { IfSome result (λ operator. operator ≡ g.compound_op (stream tokens.now at).terminal) }
-    ensures yes { IfSome result (λ operator. member (terminal_at (stream tokens.now) at) g.compounds ≡ true) }
-    ensures within { IfSome result (λ operator. 0 < terminal_at (stream tokens.now) at) }
-    ensures none { IfNone result (member (terminal_at (stream tokens.now) at) g.compounds ≡ false) }
-{
-    match tokens.terminal(at) {
-        Terminal::PlusAssign => Some(CompoundOperator::Add),
-        Terminal::MinusAssign => Some(CompoundOperator::Sub),
-        Terminal::StarAssign => Some(CompoundOperator::Mul),
-        Terminal::SlashAssign => Some(CompoundOperator::Div),
-        Terminal::PercentAssign => Some(CompoundOperator::Rem),
-        Terminal::StarStarAssign => Some(CompoundOperator::Pow),
-        Terminal::AndAssign => Some(CompoundOperator::And),
-        Terminal::OrAssign => Some(CompoundOperator::Or),
-        Terminal::CaretAssign => Some(CompoundOperator::Xor),
-        Terminal::ShiftLeftAssign => Some(CompoundOperator::Shl),
-        Terminal::ShiftRightAssign => Some(CompoundOperator::Shr),
-        _ => None,
-    }
-}
-
-/// Does the sign of an assignment stand here?
-fn begins_assignment(tokens: &TokenStream<'_>, at: usize) -> bool
-    ensures { result ≡ member (terminal_at (stream tokens.now) at) (first g.behind_target) }
-{
-    match tokens.terminal(at) {
-        Terminal::Assign | Terminal::PlusAssign | Terminal::MinusAssign | Terminal::StarAssign =>
-            true,
-        Terminal::SlashAssign
-        | Terminal::PercentAssign
-        | Terminal::StarStarAssign
-        | Terminal::AndAssign => true,
-        Terminal::OrAssign
-        | Terminal::CaretAssign
-        | Terminal::ShiftLeftAssign
-        | Terminal::ShiftRightAssign => true,
-        _ => false,
-    }
-}
-
-/// A compound assignment to that target, from its sign on.
+/// A compound assignment to that target, from its terminal on.
 #[tactic(auto, unfolding(crate::specs::Parser::read_compound))]
 fn compound(
     alloc: Global,
@@ -80,15 +36,7 @@ fn compound(
         return Err(Refusal::Syntax(at));
     };
     let at = behind(tokens, at);
-    let (value, at) = expression(
-        alloc,
-        tokens,
-        Nesting {
-            levels,
-            outer: None,
-        },
-        at,
-    )?;
+    let (value, at) = expression(alloc, tokens, levels, at)?;
     let form = StatementForm::CompoundAssignment {
         target,
         operator,
@@ -97,7 +45,7 @@ fn compound(
     Ok((form, at))
 }
 
-/// An assignment to that target, from its sign on.
+/// An assignment to that target, from its terminal on.
 #[tactic(auto, unfolding(crate::specs::Parser::read_assigned, crate::specs::Parser::read_compound, crate::specs::Parser::read_first_value))]
 fn assigned(
     alloc: Global,
@@ -143,15 +91,7 @@ fn called(
 ) -> Result<(StatementForm, usize), Refusal>
     ensures { Says (read_called tokens.now levels name at) result }
 {
-    let (arguments, at) = arguments(
-        alloc,
-        tokens,
-        Nesting {
-            levels,
-            outer: None,
-        },
-        at,
-    )?;
+    let (arguments, at) = arguments(alloc, tokens, levels, at)?;
     let (operands, at) = call_operands(alloc, tokens, levels, at)?;
     let Some(operands) = operands else {
         return Ok((StatementForm::Call { name, arguments }, at));
@@ -188,15 +128,7 @@ fn behind_first_name(
     ensures { Says (read_behind_first_name tokens.now levels name at) result }
 {
     if next_is(tokens, at, Terminal::LeftBracket) {
-        let (brackets, at) = all_indexes(
-            alloc,
-            tokens,
-            Nesting {
-                levels,
-                outer: None,
-            },
-            at,
-        )?;
+        let (brackets, at) = all_indexes(alloc, tokens, levels, at)?;
         return assigned(alloc, tokens, levels, at, Target { name, brackets });
     }
     if next_is(tokens, at, Terminal::LeftParen) {
@@ -223,6 +155,5 @@ pub fn by_name(
 {
     let (name, at) = label(alloc, tokens, at)?;
     let (form, at) = behind_first_name(alloc, tokens, levels, at, name)?;
-    let at = exactly(tokens, at, Terminal::Semicolon)?;
-    Ok((form, at))
+    with_semicolon(tokens, form, at)
 }

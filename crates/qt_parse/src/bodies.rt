@@ -5,27 +5,45 @@ ghost use Rattle.qt_grammar.specs.Sorts.{statement};
 ghost use Rattle.qt_grammar.specs.Language as g;
 ghost use Rattle.qt_grammar.specs.Outcome.{Says};
 ghost use Rattle.qt_expr.specs.Parser.{rest_some};
-ghost use Rattle.qt_parse.specs.Parser.{read_block, read_statements, read_single, read_a_block, read_body, read_if, read_otherwise, read_while, read_sequence, read_for, read_statement_form, read_statement};
+ghost use Rattle.qt_parse.specs.Parser.{read_block, read_statements, read_single, read_a_block, read_body, read_if, read_otherwise, read_while, read_sequence, read_for, read_statement_form, read_statement, read_block_or_none, read_branches, read_named_loop, read_range_in_brackets, read_values, read_values_and_body};
 
 use crate::assignments::by_name;
-use crate::lookahead::begins_statement;
 use crate::statements::{
     alias, barrier, bit_register, break_statement, constant, continue_statement, declaration,
     end_statement, gate_statement, measurement, reset, return_statement,
 };
 use qt_expr::expression::{in_parentheses, range, scalar, set};
-use qt_expr::nesting::{Nesting, too_deep};
-use qt_expr::one_token::{exactly, label, next_is};
-use qt_expr::pieces::{ended, paired};
+use qt_expr::names::label;
 use qt_grammar::refusal::Refusal;
+use qt_lookahead::begins::begins_statement;
+use qt_lookahead::nesting::too_deep;
+use qt_lookahead::one_token::{exactly, next_is};
+use qt_lookahead::pieces::{ended, paired};
 use qt_terminals::stream::TokenStream;
 use qt_terminals::terminal::Terminal;
+use qt_tree::expression::Range;
+use qt_tree::label::Label;
 use qt_tree::statement::{Sequence, Statement, StatementForm};
 use sqlite_items::Items;
 use std::alloc::Global;
 
+/// `body [ "else" body ]`
+#[tactic(auto, unfolding(crate::specs::Parser::read_branches, crate::specs::Parser::read_body, crate::specs::Parser::read_otherwise))]
+#[cycle(statement)]
+fn branches(
+    alloc: Global,
+    tokens: &TokenStream<'_>,
+    levels: usize,
+    at: usize,
+) -> Result<((Items<Statement>, Option<Items<Statement>>), usize), Refusal>
+    ensures { Says (read_branches tokens.now levels at) result }
+{
+    let (then_body, at) = body(alloc, tokens, levels, at)?;
+    paired(then_body, otherwise(alloc, tokens, levels, at))
+}
+
 /// `"if" "(" expr ")" body [ "else" body ]`
-#[tactic(auto, unfolding(crate::specs::Parser::read_if, crate::specs::Parser::read_otherwise, crate::specs::Parser::read_body, qt_expr::specs::Parser::read_in_parentheses, qt_expr::specs::Parser::read_exactly))]
+#[tactic(auto, unfolding(crate::specs::Parser::read_if, crate::specs::Parser::read_branches, qt_expr::specs::Parser::read_in_parentheses, qt_lookahead::specs::OneToken::read_exactly))]
 #[cycle(statement)]
 fn if_statement(
     alloc: Global,
@@ -36,17 +54,11 @@ fn if_statement(
     ensures { Says (read_if tokens.now levels at) result }
 {
     let at = exactly(tokens, at, Terminal::If)?;
-    let (condition, at) = in_parentheses(
-        alloc,
-        tokens,
-        Nesting {
-            levels,
-            outer: None,
-        },
-        at,
+    let (condition, at) = in_parentheses(alloc, tokens, levels, at)?;
+    let ((condition, (body, otherwise)), at) = paired(
+        condition,
+        branches(alloc, tokens, levels, at),
     )?;
-    let (parts, at) = paired(condition, body(alloc, tokens, levels, at))?;
-    let (((condition, body), otherwise), at) = paired(parts, otherwise(alloc, tokens, levels, at))?;
     let form = StatementForm::If {
         condition,
         body,
@@ -56,7 +68,7 @@ fn if_statement(
 }
 
 /// `[ "else" body ]`, which belongs to the nearest `if`.
-#[tactic(auto, unfolding(crate::specs::Parser::read_otherwise, crate::specs::Parser::read_body, qt_expr::specs::Parser::read_exactly))]
+#[tactic(auto, unfolding(crate::specs::Parser::read_otherwise, crate::specs::Parser::read_body, qt_lookahead::specs::OneToken::read_exactly))]
 #[cycle(statement)]
 fn otherwise(
     alloc: Global,
@@ -75,7 +87,7 @@ fn otherwise(
 }
 
 /// `"while" "(" expr ")" body`
-#[tactic(auto, unfolding(crate::specs::Parser::read_while, crate::specs::Parser::read_body, qt_expr::specs::Parser::read_in_parentheses, qt_expr::specs::Parser::read_exactly))]
+#[tactic(auto, unfolding(crate::specs::Parser::read_while, crate::specs::Parser::read_body, qt_expr::specs::Parser::read_in_parentheses, qt_lookahead::specs::OneToken::read_exactly))]
 #[cycle(statement)]
 fn while_loop(
     alloc: Global,
@@ -86,21 +98,28 @@ fn while_loop(
     ensures { Says (read_while tokens.now levels at) result }
 {
     let at = exactly(tokens, at, Terminal::While)?;
-    let (condition, at) = in_parentheses(
-        alloc,
-        tokens,
-        Nesting {
-            levels,
-            outer: None,
-        },
-        at,
-    )?;
+    let (condition, at) = in_parentheses(alloc, tokens, levels, at)?;
     let ((condition, body), at) = paired(condition, body(alloc, tokens, levels, at))?;
     Ok((StatementForm::While { condition, body }, at))
 }
 
+/// `"[" range "]"`
+#[tactic(auto, unfolding(crate::specs::Parser::read_range_in_brackets, qt_expr::specs::Parser::read_range, qt_lookahead::specs::OneToken::read_exactly))]
+fn range_in_brackets(
+    alloc: Global,
+    tokens: &TokenStream<'_>,
+    levels: usize,
+    at: usize,
+) -> Result<(Range, usize), Refusal>
+    ensures { Says (read_range_in_brackets tokens.now levels at) result }
+{
+    let at = exactly(tokens, at, Terminal::LeftBracket)?;
+    let (range, at) = range(alloc, tokens, levels, at)?;
+    ended(tokens, range, at, Terminal::RightBracket)
+}
+
 /// `"[" range "]" | "{" exprs "}" | Name`
-#[tactic(auto, unfolding(crate::specs::Parser::read_sequence, qt_expr::specs::Parser::read_range, qt_expr::specs::Parser::read_set, qt_expr::specs::Parser::read_label, qt_expr::specs::Parser::read_exactly))]
+#[tactic(auto, unfolding(crate::specs::Parser::read_sequence, crate::specs::Parser::read_range_in_brackets, qt_expr::specs::Parser::read_set, qt_expr::specs::Parser::read_label))]
 fn sequence(
     alloc: Global,
     tokens: &TokenStream<'_>,
@@ -110,37 +129,63 @@ fn sequence(
     ensures { Says (read_sequence tokens.now levels at) result }
 {
     if next_is(tokens, at, Terminal::LeftBracket) {
-        let at = exactly(tokens, at, Terminal::LeftBracket)?;
-        let (range, at) = range(
-            alloc,
-            tokens,
-            Nesting {
-                levels,
-                outer: None,
-            },
-            at,
-        )?;
-        let (range, at) = ended(tokens, range, at, Terminal::RightBracket)?;
+        let (range, at) = range_in_brackets(alloc, tokens, levels, at)?;
         return Ok((Sequence::Range { range }, at));
     }
     if next_is(tokens, at, Terminal::LeftBrace) {
-        let (members, at) = set(
-            alloc,
-            tokens,
-            Nesting {
-                levels,
-                outer: None,
-            },
-            at,
-        )?;
+        let (members, at) = set(alloc, tokens, levels, at)?;
         return Ok((Sequence::Set { members }, at));
     }
     let (name, at) = label(alloc, tokens, at)?;
     Ok((Sequence::Name { name }, at))
 }
 
+/// `"in" ( "[" range "]" | "{" exprs "}" | Name )`
+#[tactic(auto, unfolding(crate::specs::Parser::read_values, crate::specs::Parser::read_sequence, qt_lookahead::specs::OneToken::read_exactly))]
+fn values(
+    alloc: Global,
+    tokens: &TokenStream<'_>,
+    levels: usize,
+    at: usize,
+) -> Result<(Sequence, usize), Refusal>
+    ensures { Says (read_values tokens.now levels at) result }
+{
+    let at = exactly(tokens, at, Terminal::In)?;
+    sequence(alloc, tokens, levels, at)
+}
+
+/// `"in" ( "[" range "]" | "{" exprs "}" | Name ) body`
+#[tactic(auto, unfolding(crate::specs::Parser::read_values_and_body, crate::specs::Parser::read_values, crate::specs::Parser::read_body))]
+#[cycle(statement)]
+fn values_and_body(
+    alloc: Global,
+    tokens: &TokenStream<'_>,
+    levels: usize,
+    at: usize,
+) -> Result<((Sequence, Items<Statement>), usize), Refusal>
+    ensures { Says (read_values_and_body tokens.now levels at) result }
+{
+    let (values, at) = values(alloc, tokens, levels, at)?;
+    paired(values, body(alloc, tokens, levels, at))
+}
+
+/// `Name "in" ( "[" range "]" | "{" exprs "}" | Name ) body`
+#[tactic(auto, unfolding(crate::specs::Parser::read_named_loop, crate::specs::Parser::read_values_and_body, qt_expr::specs::Parser::read_label))]
+#[cycle(statement)]
+fn named_loop(
+    alloc: Global,
+    tokens: &TokenStream<'_>,
+    levels: usize,
+    at: usize,
+) -> Result<((Label, (Sequence, Items<Statement>)), usize), Refusal>
+    ensures { Says (read_named_loop tokens.now levels at) result }
+{
+    let (name, at) = label(alloc, tokens, at)?;
+    paired(name, values_and_body(alloc, tokens, levels, at))
+}
+
 /// `"for" scalar Name "in" ( "[" range "]" | "{" exprs "}" | Name ) body`
-#[tactic(auto, unfolding(crate::specs::Parser::read_for, crate::specs::Parser::read_sequence, crate::specs::Parser::read_body, qt_expr::specs::Parser::read_scalar, qt_expr::specs::Parser::read_label, qt_expr::specs::Parser::read_exactly))]
+#[tactic(auto, unfolding(crate::specs::Parser::read_for, crate::specs::Parser::read_named_loop, qt_expr::specs::Parser::read_scalar, qt_lookahead::specs::OneToken::read_exactly))]
 #[cycle(statement)]
 fn for_loop(
     alloc: Global,
@@ -151,19 +196,9 @@ fn for_loop(
     ensures { Says (read_for tokens.now levels at) result }
 {
     let at = exactly(tokens, at, Terminal::For)?;
-    let (scalar, at) = scalar(
-        alloc,
-        tokens,
-        Nesting {
-            levels,
-            outer: None,
-        },
-        at,
-    )?;
-    let (declared, at) = paired(scalar, label(alloc, tokens, at))?;
-    let (declared, at) = ended(tokens, declared, at, Terminal::In)?;
-    let (head, at) = paired(declared, sequence(alloc, tokens, levels, at))?;
-    let ((((scalar, name), values), body), at) = paired(head, body(alloc, tokens, levels, at))?;
+    let (scalar, at) = scalar(alloc, tokens, levels, at)?;
+    let ((scalar, parts), at) = paired(scalar, named_loop(alloc, tokens, levels, at))?;
+    let (name, (values, body)) = parts;
     let form = StatementForm::For {
         scalar,
         name,
@@ -301,8 +336,25 @@ fn single(
     Ok((all, at))
 }
 
+/// `{ statement }`, one level deeper where there are any.
+#[tactic(auto, unfolding(crate::specs::Parser::read_block_or_none, crate::specs::Parser::read_block))]
+#[cycle(statement)]
+fn block_or_none(
+    alloc: Global,
+    tokens: &TokenStream<'_>,
+    levels: usize,
+    at: usize,
+) -> Result<(Items<Statement>, usize), Refusal>
+    ensures { Says (read_block_or_none tokens.now levels at) result }
+{
+    if !begins_statement(tokens, at) {
+        return Ok((Items::new(alloc), at));
+    }
+    block(alloc, tokens, levels, at)
+}
+
 /// `block = "{" { statement } "}"`
-#[tactic(auto, unfolding(crate::specs::Parser::read_a_block, crate::specs::Parser::read_block, qt_expr::specs::Parser::read_exactly))]
+#[tactic(auto, unfolding(crate::specs::Parser::read_a_block, crate::specs::Parser::read_block_or_none, qt_lookahead::specs::OneToken::read_exactly))]
 #[cycle(statement)]
 pub fn braced(
     alloc: Global,
@@ -313,13 +365,8 @@ pub fn braced(
     ensures { Says (read_a_block tokens.now levels at) result }
 {
     let at = exactly(tokens, at, Terminal::LeftBrace)?;
-    let (all, at) = if begins_statement(tokens, at) {
-        block(alloc, tokens, levels, at)?
-    } else {
-        (Items::new(alloc), at)
-    };
-    let at = exactly(tokens, at, Terminal::RightBrace)?;
-    Ok((all, at))
+    let (all, at) = block_or_none(alloc, tokens, levels, at)?;
+    ended(tokens, all, at, Terminal::RightBrace)
 }
 
 /// `body = block | statement`

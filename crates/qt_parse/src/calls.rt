@@ -2,21 +2,19 @@
 
 ghost use Rattle.std.specs.Prelude.{◌≡◌, ◌<◌, length, None};
 ghost use Rattle.qt_terminals.specs.Alphabet as alphabet;
-ghost use Rattle.qt_terminals.specs.Terminals.{stream};
 ghost use Rattle.qt_grammar.specs.Sorts.{modifier};
-ghost use Rattle.qt_grammar.specs.Form.{member, terminal_at};
 ghost use Rattle.qt_grammar.specs.Lookahead.{first};
-ghost use Rattle.qt_grammar.specs.Language as g;
 ghost use Rattle.qt_grammar.specs.Outcome.{Says};
 ghost use Rattle.qt_expr.specs.Parser.{rest_some};
-ghost use Rattle.qt_parse.specs.Parser.{modifier_sign, read_controls, read_modifier, read_modifier_sign, read_modifiers, read_phase_call, read_gate_arguments, read_named_call, read_bare_call, read_modified_call, read_gate_call};
+ghost use Rattle.qt_parse.specs.Parser.{modifier_with_at, read_controls, read_modifier, read_modifier_with_at, read_modifiers, read_phase_call, read_gate_arguments, read_named_call, read_bare_call, read_modified_call, read_gate_call, read_exponent};
 
 use crate::operands::{any_operands, operands};
 use qt_expr::expression::{arguments, in_parentheses};
-use qt_expr::nesting::Nesting;
-use qt_expr::one_token::{exactly, label, next_is};
-use qt_expr::pieces::{ended, paired};
+use qt_expr::names::label;
 use qt_grammar::refusal::Refusal;
+use qt_lookahead::begins::begins_modifier;
+use qt_lookahead::one_token::{behind, exactly, next_is};
+use qt_lookahead::pieces::{ended, paired};
 use qt_terminals::stream::TokenStream;
 use qt_terminals::terminal::Terminal;
 use qt_tree::expression::Expr;
@@ -24,18 +22,8 @@ use qt_tree::statement::{CalledGate, GateCall, Modifier};
 use sqlite_items::Items;
 use std::alloc::Global;
 
-/// Does a modifier begin here?
-pub fn begins_modifier(tokens: &TokenStream<'_>, at: usize) -> bool
-    ensures { result ≡ member (terminal_at (stream tokens.now) at) (first g.a_modifier) }
-{
-    match tokens.terminal(at) {
-        Terminal::Inv | Terminal::Pow | Terminal::Ctrl | Terminal::NegCtrl => true,
-        _ => false,
-    }
-}
-
 /// `( "ctrl" | "negctrl" ) [ "(" expr ")" ]`, of which the number of controls is answered.
-#[tactic(auto, unfolding(crate::specs::Parser::read_controls, qt_expr::specs::Parser::read_in_parentheses, qt_expr::specs::Parser::read_exactly))]
+#[tactic(auto, unfolding(crate::specs::Parser::read_controls, qt_expr::specs::Parser::read_in_parentheses, qt_lookahead::specs::OneToken::read_exactly))]
 fn controls(
     alloc: Global,
     tokens: &TokenStream<'_>,
@@ -50,20 +38,26 @@ fn controls(
     if !next_is(tokens, at, Terminal::LeftParen) {
         return Ok((None, at));
     }
-    let (count, at) = in_parentheses(
-        alloc,
-        tokens,
-        Nesting {
-            levels,
-            outer: None,
-        },
-        at,
-    )?;
+    let (count, at) = in_parentheses(alloc, tokens, levels, at)?;
     Ok((Some(count), at))
 }
 
+/// `"pow" "(" expr ")"`, of which the exponent is answered.
+#[tactic(auto, unfolding(crate::specs::Parser::read_exponent, qt_expr::specs::Parser::read_in_parentheses, qt_lookahead::specs::OneToken::read_exactly))]
+fn exponent(
+    alloc: Global,
+    tokens: &TokenStream<'_>,
+    levels: usize,
+    at: usize,
+) -> Result<(Expr, usize), Refusal>
+    ensures { Says (read_exponent tokens.now levels at) result }
+{
+    let at = exactly(tokens, at, Terminal::Pow)?;
+    in_parentheses(alloc, tokens, levels, at)
+}
+
 /// `modifier = "inv" | "pow" "(" expr ")" | ( "ctrl" | "negctrl" ) [ "(" expr ")" ]`
-#[tactic(auto, unfolding(crate::specs::Parser::read_modifier, crate::specs::Parser::read_controls, qt_expr::specs::Parser::read_in_parentheses, qt_expr::specs::Parser::read_exactly))]
+#[tactic(auto, unfolding(crate::specs::Parser::read_modifier, crate::specs::Parser::read_exponent, crate::specs::Parser::read_controls))]
 fn modifier(
     alloc: Global,
     tokens: &TokenStream<'_>,
@@ -73,21 +67,9 @@ fn modifier(
     ensures { Says (read_modifier tokens.now levels at) result }
 {
     match tokens.terminal(at) {
-        Terminal::Inv => {
-            let at = exactly(tokens, at, Terminal::Inv)?;
-            Ok((Modifier::Inv, at))
-        }
+        Terminal::Inv => Ok((Modifier::Inv, behind(tokens, at))),
         Terminal::Pow => {
-            let at = exactly(tokens, at, Terminal::Pow)?;
-            let (exponent, at) = in_parentheses(
-                alloc,
-                tokens,
-                Nesting {
-                    levels,
-                    outer: None,
-                },
-                at,
-            )?;
+            let (exponent, at) = exponent(alloc, tokens, levels, at)?;
             Ok((Modifier::Pow { exponent }, at))
         }
         Terminal::Ctrl => {
@@ -102,21 +84,21 @@ fn modifier(
 }
 
 /// A modifier and its `@`.
-#[tactic(auto, unfolding(crate::specs::Parser::read_modifier_sign, crate::specs::Parser::read_modifier, qt_expr::specs::Parser::read_exactly))]
-fn modifier_sign(
+#[tactic(auto, unfolding(crate::specs::Parser::read_modifier_with_at, crate::specs::Parser::read_modifier, qt_lookahead::specs::OneToken::read_exactly))]
+fn modifier_with_at(
     alloc: Global,
     tokens: &TokenStream<'_>,
     levels: usize,
     at: usize,
 ) -> Result<(Modifier, usize), Refusal>
-    ensures { Says (read_modifier_sign tokens.now levels at) result }
+    ensures { Says (read_modifier_with_at tokens.now levels at) result }
 {
     let (modifier, at) = modifier(alloc, tokens, levels, at)?;
     ended(tokens, modifier, at, Terminal::At)
 }
 
 /// `{ modifier "@" }`, at least one; the outermost is the first.
-#[tactic(auto, unfolding(crate::specs::Parser::read_modifier_sign, crate::specs::Parser::read_modifiers, qt_expr::specs::Parser::rest_some))]
+#[tactic(auto, unfolding(crate::specs::Parser::read_modifier_with_at, crate::specs::Parser::read_modifiers, qt_expr::specs::Parser::rest_some))]
 fn modifiers(
     alloc: Global,
     tokens: &TokenStream<'_>,
@@ -125,7 +107,7 @@ fn modifiers(
 ) -> Result<(Items<Modifier>, usize), Refusal>
     ensures { Says (read_modifiers tokens.now levels at) result }
 {
-    let (first, at) = modifier_sign(alloc, tokens, levels, at)?;
+    let (first, at) = modifier_with_at(alloc, tokens, levels, at)?;
     let mut all = Items::new(alloc);
     all.push(first)?;
     more_modifiers(alloc, tokens, levels, at, all)
@@ -140,7 +122,7 @@ fn more_modifiers(
     at: usize,
     all: Items<Modifier>,
 ) -> Result<(Items<Modifier>, usize), Refusal>
-    ensures { Says (rest_some tokens.now {s = modifier} modifier_sign levels None (length tokens.now) all at) result }
+    ensures { Says (rest_some tokens.now {s = modifier} modifier_with_at levels None (length tokens.now) all at) result }
 {
     let mut all = all;
     let mut at = at;
@@ -148,7 +130,7 @@ fn more_modifiers(
         if !begins_modifier(tokens, at) {
             return Ok((all, at));
         }
-        let (next, behind) = modifier_sign(alloc, tokens, levels, at)?;
+        let (next, behind) = modifier_with_at(alloc, tokens, levels, at)?;
         all.push(next)?;
         at = behind;
     }
@@ -156,7 +138,7 @@ fn more_modifiers(
 }
 
 /// `"gphase" "(" expr ")" [ operands ]`
-#[tactic(auto, unfolding(crate::specs::Parser::read_phase_call, crate::specs::Parser::read_any_operands, qt_expr::specs::Parser::read_in_parentheses, qt_expr::specs::Parser::read_exactly))]
+#[tactic(auto, unfolding(crate::specs::Parser::read_phase_call, crate::specs::Parser::read_any_operands, qt_expr::specs::Parser::read_in_parentheses, qt_lookahead::specs::OneToken::read_exactly))]
 pub fn phase_call(
     alloc: Global,
     tokens: &TokenStream<'_>,
@@ -166,15 +148,7 @@ pub fn phase_call(
     ensures { Says (read_phase_call tokens.now levels at) result }
 {
     let at = exactly(tokens, at, Terminal::GPhase)?;
-    let (angle, at) = in_parentheses(
-        alloc,
-        tokens,
-        Nesting {
-            levels,
-            outer: None,
-        },
-        at,
-    )?;
+    let (angle, at) = in_parentheses(alloc, tokens, levels, at)?;
     let ((angle, operands), at) = paired(angle, any_operands(alloc, tokens, levels, at))?;
     let call = GateCall {
         modifiers: Items::new(alloc),
@@ -197,15 +171,7 @@ fn gate_arguments(
     if !next_is(tokens, at, Terminal::LeftParen) {
         return Ok((None, at));
     }
-    let (arguments, at) = arguments(
-        alloc,
-        tokens,
-        Nesting {
-            levels,
-            outer: None,
-        },
-        at,
-    )?;
+    let (arguments, at) = arguments(alloc, tokens, levels, at)?;
     Ok((Some(arguments), at))
 }
 

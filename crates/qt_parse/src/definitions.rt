@@ -6,23 +6,25 @@ ghost use Rattle.qt_grammar.specs.Sorts.{gate_line, parameter};
 ghost use Rattle.qt_grammar.specs.Language as g;
 ghost use Rattle.qt_grammar.specs.Outcome.{Says};
 ghost use Rattle.qt_expr.specs.Parser.{rest_some, rest_separated};
-ghost use Rattle.qt_parse.specs.Parser.{read_any_names, read_gate_line_form, read_gate_line, read_gate_block, read_gate_lines, read_gate_parameters, read_gate_body, read_gate_item, read_parameter, read_parameters, read_parameter_list, read_in_definition, read_result_type, read_definition};
+ghost use Rattle.qt_parse.specs.Parser.{read_any_names, read_gate_line_form, read_gate_line, read_gate_block, read_gate_lines, read_gate_parameters, read_gate_body, read_gate_item, read_parameter, read_parameters, read_parameter_list, read_in_definition, read_result_type, read_definition, read_definition_parts, read_gate_barrier, read_gate_block_or_none, read_gate_parts, read_names_in_parentheses, read_parameters_or_none, read_qubits_and_body, read_result_and_body};
 
 use crate::bodies::braced;
 use crate::calls::gate_call;
-use crate::items::qubits;
-use crate::lookahead::{begins_gate_line, begins_parameter, begins_scalar};
+use crate::items::{qubits, scalar_and_name};
 use qt_expr::expression::scalar;
-use qt_expr::nesting::{Nesting, too_deep};
-use qt_expr::one_token::{behind, exactly, label, names, next_is};
-use qt_expr::pieces::{ended, paired};
+use qt_expr::names::{label, names};
 use qt_grammar::refusal::Refusal;
+use qt_lookahead::begins::{begins_gate_line, begins_parameter, begins_scalar};
+use qt_lookahead::nesting::too_deep;
+use qt_lookahead::one_token::{behind, exactly, next_is};
+use qt_lookahead::pieces::{ended, paired, with_semicolon};
 use qt_terminals::stream::TokenStream;
 use qt_terminals::terminal::Terminal;
 use qt_tree::expression::Scalar;
 use qt_tree::label::Label;
 use qt_tree::place::Place;
 use qt_tree::program::{Definition, GateForm, GateItem, GateStatement, Item, Parameter};
+use qt_tree::statement::Statement;
 use sqlite_items::Items;
 use std::alloc::Global;
 
@@ -41,8 +43,22 @@ fn any_names(
     names(alloc, tokens, at)
 }
 
+/// `"barrier" [ names ] ";"`
+#[tactic(auto, unfolding(crate::specs::Parser::read_gate_barrier, crate::specs::Parser::read_any_names, qt_lookahead::specs::OneToken::read_exactly))]
+fn gate_barrier(
+    alloc: Global,
+    tokens: &TokenStream<'_>,
+    at: usize,
+) -> Result<(Items<Label>, usize), Refusal>
+    ensures { Says (read_gate_barrier tokens.now at) result }
+{
+    let at = exactly(tokens, at, Terminal::Barrier)?;
+    let (qubits, at) = any_names(alloc, tokens, at)?;
+    with_semicolon(tokens, qubits, at)
+}
+
 /// `gatecall | "barrier" [ names ] ";"`
-#[tactic(auto, unfolding(crate::specs::Parser::read_gate_line_form, crate::specs::Parser::read_gate_call, crate::specs::Parser::read_any_names, qt_expr::specs::Parser::read_exactly))]
+#[tactic(auto, unfolding(crate::specs::Parser::read_gate_line_form, crate::specs::Parser::read_gate_call, crate::specs::Parser::read_gate_barrier, qt_lookahead::specs::OneToken::read_exactly))]
 fn gate_line_form(
     alloc: Global,
     tokens: &TokenStream<'_>,
@@ -52,13 +68,11 @@ fn gate_line_form(
     ensures { Says (read_gate_line_form tokens.now levels at) result }
 {
     if next_is(tokens, at, Terminal::Barrier) {
-        let at = exactly(tokens, at, Terminal::Barrier)?;
-        let (qubits, at) = any_names(alloc, tokens, at)?;
-        let (qubits, at) = ended(tokens, qubits, at, Terminal::Semicolon)?;
+        let (qubits, at) = gate_barrier(alloc, tokens, at)?;
         return Ok((GateForm::Barrier { qubits }, at));
     }
     let (call, at) = gate_call(alloc, tokens, levels, at)?;
-    let (call, at) = ended(tokens, call, at, Terminal::Semicolon)?;
+    let (call, at) = with_semicolon(tokens, call, at)?;
     Ok((GateForm::Call { call }, at))
 }
 
@@ -133,8 +147,24 @@ fn gate_block(
     gate_lines(alloc, tokens, levels - 1, at)
 }
 
+/// Statements of a gate's body, if there are any.
+#[tactic(auto, unfolding(crate::specs::Parser::read_gate_block_or_none, crate::specs::Parser::read_gate_block))]
+fn gate_block_or_none(
+    alloc: Global,
+    tokens: &TokenStream<'_>,
+    levels: usize,
+    at: usize,
+) -> Result<(Items<GateStatement>, usize), Refusal>
+    ensures { Says (read_gate_block_or_none tokens.now levels at) result }
+{
+    if !begins_gate_line(tokens, at) {
+        return Ok((Items::new(alloc), at));
+    }
+    gate_block(alloc, tokens, levels, at)
+}
+
 /// `"{" { gatecall | "barrier" [ names ] ";" } "}"`
-#[tactic(auto, unfolding(crate::specs::Parser::read_gate_body, crate::specs::Parser::read_gate_block, qt_expr::specs::Parser::read_exactly))]
+#[tactic(auto, unfolding(crate::specs::Parser::read_gate_body, crate::specs::Parser::read_gate_block_or_none, qt_lookahead::specs::OneToken::read_exactly))]
 fn gate_body(
     alloc: Global,
     tokens: &TokenStream<'_>,
@@ -144,17 +174,26 @@ fn gate_body(
     ensures { Says (read_gate_body tokens.now levels at) result }
 {
     let at = exactly(tokens, at, Terminal::LeftBrace)?;
-    let (body, at) = if begins_gate_line(tokens, at) {
-        gate_block(alloc, tokens, levels, at)?
-    } else {
-        (Items::new(alloc), at)
-    };
-    let at = exactly(tokens, at, Terminal::RightBrace)?;
-    Ok((body, at))
+    let (body, at) = gate_block_or_none(alloc, tokens, levels, at)?;
+    ended(tokens, body, at, Terminal::RightBrace)
+}
+
+/// `"(" [ names ] ")"`
+#[tactic(auto, unfolding(crate::specs::Parser::read_names_in_parentheses, crate::specs::Parser::read_any_names, qt_lookahead::specs::OneToken::read_exactly))]
+fn names_in_parentheses(
+    alloc: Global,
+    tokens: &TokenStream<'_>,
+    at: usize,
+) -> Result<(Items<Label>, usize), Refusal>
+    ensures { Says (read_names_in_parentheses tokens.now at) result }
+{
+    let at = exactly(tokens, at, Terminal::LeftParen)?;
+    let (names, at) = any_names(alloc, tokens, at)?;
+    ended(tokens, names, at, Terminal::RightParen)
 }
 
 /// `[ "(" [ names ] ")" ]`
-#[tactic(auto, unfolding(crate::specs::Parser::read_gate_parameters, crate::specs::Parser::read_any_names, qt_expr::specs::Parser::read_exactly))]
+#[tactic(auto, unfolding(crate::specs::Parser::read_gate_parameters, crate::specs::Parser::read_names_in_parentheses))]
 fn gate_parameters(
     alloc: Global,
     tokens: &TokenStream<'_>,
@@ -165,14 +204,43 @@ fn gate_parameters(
     if !next_is(tokens, at, Terminal::LeftParen) {
         return Ok((None, at));
     }
-    let at = exactly(tokens, at, Terminal::LeftParen)?;
-    let (parameters, at) = any_names(alloc, tokens, at)?;
-    let at = exactly(tokens, at, Terminal::RightParen)?;
+    let (parameters, at) = names_in_parentheses(alloc, tokens, at)?;
     Ok((Some(parameters), at))
 }
 
+/// `names "{" { gatecall | "barrier" [ names ] ";" } "}"`
+#[tactic(auto, unfolding(crate::specs::Parser::read_qubits_and_body, crate::specs::Parser::read_gate_body, qt_expr::specs::Parser::read_names))]
+fn qubits_and_body(
+    alloc: Global,
+    tokens: &TokenStream<'_>,
+    levels: usize,
+    at: usize,
+) -> Result<((Items<Label>, Items<GateStatement>), usize), Refusal>
+    ensures { Says (read_qubits_and_body tokens.now levels at) result }
+{
+    let (qubits, at) = names(alloc, tokens, at)?;
+    paired(qubits, gate_body(alloc, tokens, levels, at))
+}
+
+/// The parameters of a gate, its qubits and its body.
+type GateParts = (Option<Items<Label>>, (Items<Label>, Items<GateStatement>));
+
+/// `[ "(" [ names ] ")" ] names "{" { gatecall | "barrier" [ names ] ";" } "}"`
+#[tactic(auto, unfolding(crate::specs::Parser::read_gate_parts, crate::specs::Parser::read_gate_parameters, crate::specs::Parser::read_qubits_and_body))]
+fn gate_parts(
+    alloc: Global,
+    tokens: &TokenStream<'_>,
+    levels: usize,
+    at: usize,
+) -> Result<(GateParts, usize), Refusal>
+    ensures { Says (read_gate_parts tokens.now levels at) result }
+{
+    let (parameters, at) = gate_parameters(alloc, tokens, at)?;
+    paired(parameters, qubits_and_body(alloc, tokens, levels, at))
+}
+
 /// `"gate" Name [ "(" [ names ] ")" ] names "{" { gatecall | "barrier" [ names ] ";" } "}"`
-#[tactic(auto, unfolding(crate::specs::Parser::read_gate_item, crate::specs::Parser::read_gate_parameters, crate::specs::Parser::read_gate_body, qt_expr::specs::Parser::read_names, qt_expr::specs::Parser::read_label, qt_expr::specs::Parser::read_exactly))]
+#[tactic(auto, unfolding(crate::specs::Parser::read_gate_item, crate::specs::Parser::read_gate_parts, qt_expr::specs::Parser::read_label, qt_lookahead::specs::OneToken::read_exactly))]
 pub fn gate_item(
     alloc: Global,
     tokens: &TokenStream<'_>,
@@ -184,9 +252,8 @@ pub fn gate_item(
 {
     let at = exactly(tokens, at, Terminal::Gate)?;
     let (name, at) = label(alloc, tokens, at)?;
-    let (parameters, at) = gate_parameters(alloc, tokens, at)?;
-    let (qubits, at) = names(alloc, tokens, at)?;
-    let (body, at) = gate_body(alloc, tokens, levels, at)?;
+    let ((name, parts), at) = paired(name, gate_parts(alloc, tokens, levels, at))?;
+    let (parameters, (qubits, body)) = parts;
     let gate = GateItem {
         place,
         name,
@@ -198,7 +265,7 @@ pub fn gate_item(
 }
 
 /// `param = scalar Name | "qubit" [ "[" expr "]" ] Name`
-#[tactic(auto, unfolding(crate::specs::Parser::read_parameter, crate::specs::Parser::read_qubits, qt_expr::specs::Parser::read_scalar, qt_expr::specs::Parser::read_label))]
+#[tactic(auto, unfolding(crate::specs::Parser::read_parameter, crate::specs::Parser::read_qubits, crate::specs::Parser::read_scalar_and_name))]
 fn parameter(
     alloc: Global,
     tokens: &TokenStream<'_>,
@@ -208,16 +275,7 @@ fn parameter(
     ensures { Says (read_parameter tokens.now levels at) result }
 {
     if begins_scalar(tokens, at) {
-        let (scalar, at) = scalar(
-            alloc,
-            tokens,
-            Nesting {
-                levels,
-                outer: None,
-            },
-            at,
-        )?;
-        let ((scalar, name), at) = paired(scalar, label(alloc, tokens, at))?;
+        let ((scalar, name), at) = scalar_and_name(alloc, tokens, levels, at)?;
         return Ok((Parameter::Classical { scalar, name }, at));
     }
     let ((size, name), at) = qubits(alloc, tokens, levels, at)?;
@@ -280,8 +338,24 @@ fn parameters(
     parameter_list(alloc, tokens, levels - 1, at)
 }
 
+/// Parameters with commas between, or none.
+#[tactic(auto, unfolding(crate::specs::Parser::read_parameters_or_none, crate::specs::Parser::read_parameters))]
+fn parameters_or_none(
+    alloc: Global,
+    tokens: &TokenStream<'_>,
+    levels: usize,
+    at: usize,
+) -> Result<(Items<Parameter>, usize), Refusal>
+    ensures { Says (read_parameters_or_none tokens.now levels at) result }
+{
+    if !begins_parameter(tokens, at) {
+        return Ok((Items::new(alloc), at));
+    }
+    parameters(alloc, tokens, levels, at)
+}
+
 /// `"(" [ param { "," param } ] ")"`
-#[tactic(auto, unfolding(crate::specs::Parser::read_in_definition, crate::specs::Parser::read_parameters, qt_expr::specs::Parser::read_exactly))]
+#[tactic(auto, unfolding(crate::specs::Parser::read_in_definition, crate::specs::Parser::read_parameters_or_none, qt_lookahead::specs::OneToken::read_exactly))]
 fn in_definition(
     alloc: Global,
     tokens: &TokenStream<'_>,
@@ -291,17 +365,12 @@ fn in_definition(
     ensures { Says (read_in_definition tokens.now levels at) result }
 {
     let at = exactly(tokens, at, Terminal::LeftParen)?;
-    let (all, at) = if begins_parameter(tokens, at) {
-        parameters(alloc, tokens, levels, at)?
-    } else {
-        (Items::new(alloc), at)
-    };
-    let at = exactly(tokens, at, Terminal::RightParen)?;
-    Ok((all, at))
+    let (all, at) = parameters_or_none(alloc, tokens, levels, at)?;
+    ended(tokens, all, at, Terminal::RightParen)
 }
 
 /// `[ "->" scalar ]`
-#[tactic(auto, unfolding(crate::specs::Parser::read_result_type, qt_expr::specs::Parser::read_scalar, qt_expr::specs::Parser::read_exactly))]
+#[tactic(auto, unfolding(crate::specs::Parser::read_result_type, qt_expr::specs::Parser::read_scalar, qt_lookahead::specs::OneToken::read_exactly))]
 fn result_type(
     alloc: Global,
     tokens: &TokenStream<'_>,
@@ -314,20 +383,43 @@ fn result_type(
         return Ok((None, at));
     }
     let at = exactly(tokens, at, Terminal::Arrow)?;
-    let (scalar, at) = scalar(
-        alloc,
-        tokens,
-        Nesting {
-            levels,
-            outer: None,
-        },
-        at,
-    )?;
+    let (scalar, at) = scalar(alloc, tokens, levels, at)?;
     Ok((Some(scalar), at))
 }
 
+/// `[ "->" scalar ] block`
+#[tactic(auto, unfolding(crate::specs::Parser::read_result_and_body, crate::specs::Parser::read_result_type, crate::specs::Parser::read_a_block))]
+fn result_and_body(
+    alloc: Global,
+    tokens: &TokenStream<'_>,
+    levels: usize,
+    at: usize,
+) -> Result<((Option<Scalar>, Items<Statement>), usize), Refusal>
+    ensures { Says (read_result_and_body tokens.now levels at) result }
+{
+    let (result_type, at) = result_type(alloc, tokens, levels, at)?;
+    paired(result_type, braced(alloc, tokens, levels, at))
+}
+
+/// The parameters of a subroutine, the type of its result and its body.
+type DefinitionParts = (Items<Parameter>, (Option<Scalar>, Items<Statement>));
+
+/// `"(" [ param { "," param } ] ")" [ "->" scalar ] block`
+#[tactic(auto, unfolding(crate::specs::Parser::read_definition_parts, crate::specs::Parser::read_in_definition, crate::specs::Parser::read_result_and_body))]
+fn definition_parts(
+    alloc: Global,
+    tokens: &TokenStream<'_>,
+    levels: usize,
+    at: usize,
+) -> Result<(DefinitionParts, usize), Refusal>
+    ensures { Says (read_definition_parts tokens.now levels at) result }
+{
+    let (parameters, at) = in_definition(alloc, tokens, levels, at)?;
+    paired(parameters, result_and_body(alloc, tokens, levels, at))
+}
+
 /// `"def" Name "(" [ param { "," param } ] ")" [ "->" scalar ] block`
-#[tactic(auto, unfolding(crate::specs::Parser::read_definition, crate::specs::Parser::read_in_definition, crate::specs::Parser::read_result_type, crate::specs::Parser::read_a_block, qt_expr::specs::Parser::read_label, qt_expr::specs::Parser::read_exactly))]
+#[tactic(auto, unfolding(crate::specs::Parser::read_definition, crate::specs::Parser::read_definition_parts, qt_expr::specs::Parser::read_label, qt_lookahead::specs::OneToken::read_exactly))]
 pub fn definition(
     alloc: Global,
     tokens: &TokenStream<'_>,
@@ -339,9 +431,8 @@ pub fn definition(
 {
     let at = exactly(tokens, at, Terminal::Def)?;
     let (name, at) = label(alloc, tokens, at)?;
-    let (parameters, at) = in_definition(alloc, tokens, levels, at)?;
-    let (result_type, at) = result_type(alloc, tokens, levels, at)?;
-    let (body, at) = braced(alloc, tokens, levels, at)?;
+    let ((name, parts), at) = paired(name, definition_parts(alloc, tokens, levels, at))?;
+    let (parameters, (result_type, body)) = parts;
     let definition = Definition {
         place,
         name,

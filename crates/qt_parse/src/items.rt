@@ -6,15 +6,15 @@ ghost use Rattle.qt_terminals.specs.Alphabet as alphabet;
 ghost use Rattle.qt_terminals.specs.declared.terminal.Terminal.TheVariants as w;
 ghost use Rattle.qt_tree.specs.declared.program.Item.TheVariants as i;
 ghost use Rattle.qt_grammar.specs.Outcome.{Says};
-ghost use Rattle.qt_expr.specs.Parser.{Steps};
-ghost use Rattle.qt_parse.specs.Parser.{read_include, read_quoted, read_declared, read_interface, read_qubits, read_qubit_item, read_register_item};
+ghost use Rattle.qt_lookahead.specs.OneToken.{Steps};
+ghost use Rattle.qt_parse.specs.Parser.{read_include, read_quoted, read_declared, read_interface, read_qubits, read_qubit_item, read_register_item, read_scalar_and_name};
 
-use crate::statements::optional_size;
+use crate::statements::{name_and_size, optional_size};
 use qt_expr::expression::scalar;
-use qt_expr::nesting::Nesting;
-use qt_expr::one_token::{exactly, label, next_is};
-use qt_expr::pieces::{ended, paired};
+use qt_expr::names::label;
 use qt_grammar::refusal::Refusal;
+use qt_lookahead::one_token::{exactly, next_is};
+use qt_lookahead::pieces::{paired, with_semicolon};
 use qt_terminals::stream::TokenStream;
 use qt_terminals::terminal::Terminal;
 use qt_tree::expression::{Expr, Scalar};
@@ -24,7 +24,7 @@ use qt_tree::program::Item;
 use std::alloc::Global;
 
 /// A text in quotes, whether its characters are binary digits or not.
-#[tactic(auto, unfolding(crate::specs::Parser::read_quoted, qt_expr::specs::Parser::read_exactly))]
+#[tactic(auto, unfolding(crate::specs::Parser::read_quoted, qt_lookahead::specs::OneToken::read_exactly))]
 fn quoted(tokens: &TokenStream<'_>, at: usize) -> Result<usize, Refusal>
     ensures { Steps (read_quoted tokens.now at) (stream tokens.now at) result }
 {
@@ -36,7 +36,7 @@ fn quoted(tokens: &TokenStream<'_>, at: usize) -> Result<usize, Refusal>
 }
 
 /// `"include" Text ";"`
-#[tactic(auto, unfolding(crate::specs::Parser::read_include, crate::specs::Parser::read_quoted, qt_expr::specs::Parser::read_exactly))]
+#[tactic(auto, unfolding(crate::specs::Parser::read_include, crate::specs::Parser::read_quoted, qt_lookahead::specs::OneToken::read_exactly))]
 pub fn include(
     alloc: Global,
     tokens: &TokenStream<'_>,
@@ -53,8 +53,22 @@ pub fn include(
     Ok((Item::Include { place, name }, at))
 }
 
+/// `scalar Name`
+#[tactic(auto, unfolding(crate::specs::Parser::read_scalar_and_name, qt_expr::specs::Parser::read_scalar, qt_expr::specs::Parser::read_label))]
+pub fn scalar_and_name(
+    alloc: Global,
+    tokens: &TokenStream<'_>,
+    levels: usize,
+    at: usize,
+) -> Result<((Scalar, Label), usize), Refusal>
+    ensures { Says (read_scalar_and_name tokens.now levels at) result }
+{
+    let (scalar, at) = scalar(alloc, tokens, levels, at)?;
+    paired(scalar, label(alloc, tokens, at))
+}
+
 /// A terminal, a type and a name with their semicolon.
-#[tactic(auto, unfolding(crate::specs::Parser::read_declared, qt_expr::specs::Parser::read_scalar, qt_expr::specs::Parser::read_label, qt_expr::specs::Parser::read_exactly))]
+#[tactic(auto, unfolding(crate::specs::Parser::read_declared, crate::specs::Parser::read_scalar_and_name, qt_lookahead::specs::OneToken::read_exactly))]
 fn declared(
     alloc: Global,
     tokens: &TokenStream<'_>,
@@ -66,17 +80,8 @@ fn declared(
     ensures { Says (read_declared tokens.now terminal levels at) result }
 {
     let at = exactly(tokens, at, terminal)?;
-    let (scalar, at) = scalar(
-        alloc,
-        tokens,
-        Nesting {
-            levels,
-            outer: None,
-        },
-        at,
-    )?;
-    let (declared, at) = paired(scalar, label(alloc, tokens, at))?;
-    ended(tokens, declared, at, Terminal::Semicolon)
+    let (declared, at) = scalar_and_name(alloc, tokens, levels, at)?;
+    with_semicolon(tokens, declared, at)
 }
 
 /// `"input" scalar Name ";"`
@@ -120,7 +125,7 @@ pub fn output(
 }
 
 /// `"qubit" [ "[" expr "]" ] Name`
-#[tactic(auto, unfolding(crate::specs::Parser::read_qubits, crate::specs::Parser::read_optional_size, qt_expr::specs::Parser::read_label, qt_expr::specs::Parser::read_exactly))]
+#[tactic(auto, unfolding(crate::specs::Parser::read_qubits, crate::specs::Parser::read_optional_size, qt_expr::specs::Parser::read_label, qt_lookahead::specs::OneToken::read_exactly))]
 pub fn qubits(
     alloc: Global,
     tokens: &TokenStream<'_>,
@@ -135,7 +140,7 @@ pub fn qubits(
 }
 
 /// `"qubit" [ "[" expr "]" ] Name ";"`
-#[tactic(auto, unfolding(crate::specs::Parser::read_qubit_item, crate::specs::Parser::read_qubits, qt_expr::specs::Parser::read_exactly))]
+#[tactic(auto, unfolding(crate::specs::Parser::read_qubit_item, crate::specs::Parser::read_qubits, qt_lookahead::specs::OneToken::read_exactly))]
 pub fn qubit_item(
     alloc: Global,
     tokens: &TokenStream<'_>,
@@ -146,12 +151,12 @@ pub fn qubit_item(
     ensures { Says (read_qubit_item tokens.now levels place at) result }
 {
     let (declared, at) = qubits(alloc, tokens, levels, at)?;
-    let ((size, name), at) = ended(tokens, declared, at, Terminal::Semicolon)?;
+    let ((size, name), at) = with_semicolon(tokens, declared, at)?;
     Ok((Item::Qubit { place, size, name }, at))
 }
 
 /// `"qreg" Name [ "[" expr "]" ] ";"`
-#[tactic(auto, unfolding(crate::specs::Parser::read_register_item, crate::specs::Parser::read_optional_size, qt_expr::specs::Parser::read_label, qt_expr::specs::Parser::read_exactly))]
+#[tactic(auto, unfolding(crate::specs::Parser::read_register_item, crate::specs::Parser::read_name_and_size, qt_lookahead::specs::OneToken::read_exactly))]
 pub fn register_item(
     alloc: Global,
     tokens: &TokenStream<'_>,
@@ -162,8 +167,7 @@ pub fn register_item(
     ensures { Says (read_register_item tokens.now levels place at) result }
 {
     let at = exactly(tokens, at, Terminal::Qreg)?;
-    let (name, at) = label(alloc, tokens, at)?;
-    let (parts, at) = paired(name, optional_size(alloc, tokens, levels, at))?;
-    let ((name, size), at) = ended(tokens, parts, at, Terminal::Semicolon)?;
+    let (parts, at) = name_and_size(alloc, tokens, levels, at)?;
+    let ((name, size), at) = with_semicolon(tokens, parts, at)?;
     Ok((Item::QubitRegister { place, name, size }, at))
 }

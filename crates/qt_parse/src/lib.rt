@@ -4,7 +4,7 @@
 //! the first that is too deep, or the stopper, by its feature where the profile leaves that out. Each other function reads one form of
 //! the grammar and answers what the grammar's reader of that form answers (`specs/Parser.antt`), with one token of lookahead; only
 //! [`bodies`] and [`arrays`] call themselves. Expressions are read by `qt_expr`. What was read before a form is handed over while that is
-//! read (`qt_expr::pieces`), so that no tree waits in a variable where a refusal would have to drop it: that keeps the proofs short.
+//! read (`qt_lookahead::pieces`), so that no tree waits in a variable where a refusal would have to drop it: that keeps the proofs short.
 #![tactic(auto)]
 
 mod arrays;
@@ -13,7 +13,6 @@ mod bodies;
 mod calls;
 mod definitions;
 mod items;
-mod lookahead;
 mod operands;
 pub mod parser;
 mod program;

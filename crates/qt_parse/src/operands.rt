@@ -2,26 +2,58 @@
 
 ghost use Rattle.std.specs.Prelude.{◌≡◌, ◌<◌, length, None};
 ghost use Rattle.qt_terminals.specs.Alphabet as alphabet;
-ghost use Rattle.qt_terminals.specs.declared.terminal.Terminal.TheVariants as w;
 ghost use Rattle.qt_grammar.specs.Sorts.{operand};
 ghost use Rattle.qt_grammar.specs.Language as g;
 ghost use Rattle.qt_grammar.specs.Outcome.{Says};
 ghost use Rattle.qt_expr.specs.Parser.{rest_separated};
-ghost use Rattle.qt_parse.specs.Parser.{read_operand, read_operands, read_any_operands, read_target, read_measured, read_right, read_first_value};
+ghost use Rattle.qt_parse.specs.Parser.{read_operand, read_operands, read_any_operands, read_target, read_measured, read_right, read_first_value, read_index_in_brackets, read_optional_index};
 
 use qt_expr::expression::{all_indexes, expression, index};
-use qt_expr::nesting::Nesting;
-use qt_expr::one_token::{behind, exactly, label, next_is};
-use qt_expr::pieces::{ended, paired};
+use qt_expr::names::label;
 use qt_grammar::refusal::Refusal;
+use qt_lookahead::one_token::{behind, exactly, next_is};
+use qt_lookahead::pieces::{ended, paired};
 use qt_terminals::stream::TokenStream;
 use qt_terminals::terminal::Terminal;
+use qt_tree::expression::Index;
 use qt_tree::statement::{Operand, Right, Target};
 use sqlite_items::Items;
 use std::alloc::Global;
 
+/// `"[" index "]"`
+#[tactic(auto, unfolding(crate::specs::Parser::read_index_in_brackets, qt_expr::specs::Parser::read_index, qt_lookahead::specs::OneToken::read_exactly))]
+fn index_in_brackets(
+    alloc: Global,
+    tokens: &TokenStream<'_>,
+    levels: usize,
+    at: usize,
+) -> Result<(Index, usize), Refusal>
+    ensures { Says (read_index_in_brackets tokens.now levels at) result }
+{
+    let at = exactly(tokens, at, Terminal::LeftBracket)?;
+    let (index, at) = index(alloc, tokens, levels, at)?;
+    ended(tokens, index, at, Terminal::RightBracket)
+}
+
+/// `[ "[" index "]" ]`
+#[tactic(auto, unfolding(crate::specs::Parser::read_optional_index, crate::specs::Parser::read_index_in_brackets))]
+fn optional_index(
+    alloc: Global,
+    tokens: &TokenStream<'_>,
+    levels: usize,
+    at: usize,
+) -> Result<(Option<Index>, usize), Refusal>
+    ensures { Says (read_optional_index tokens.now levels at) result }
+{
+    if !next_is(tokens, at, Terminal::LeftBracket) {
+        return Ok((None, at));
+    }
+    let (index, at) = index_in_brackets(alloc, tokens, levels, at)?;
+    Ok((Some(index), at))
+}
+
 /// `operand = Name [ "[" index "]" ]`
-#[tactic(auto, unfolding(crate::specs::Parser::read_operand, qt_expr::specs::Parser::read_label, qt_expr::specs::Parser::read_index, qt_expr::specs::Parser::read_exactly))]
+#[tactic(auto, unfolding(crate::specs::Parser::read_operand, crate::specs::Parser::read_optional_index, qt_expr::specs::Parser::read_label))]
 pub fn operand(
     alloc: Global,
     tokens: &TokenStream<'_>,
@@ -31,26 +63,11 @@ pub fn operand(
     ensures { Says (read_operand tokens.now levels at) result }
 {
     let (name, at) = label(alloc, tokens, at)?;
-    if !next_is(tokens, at, Terminal::LeftBracket) {
-        return Ok((Operand { name, index: None }, at));
-    }
-    let (name, at) = ended(tokens, name, at, Terminal::LeftBracket)?;
-    let index = index(
-        alloc,
-        tokens,
-        Nesting {
-            levels,
-            outer: None,
-        },
-        at,
-    );
-    let (parts, at) = paired(name, index)?;
-    let ((name, index), at) = ended(tokens, parts, at, Terminal::RightBracket)?;
-    let index = Some(index);
+    let ((name, index), at) = paired(name, optional_index(alloc, tokens, levels, at))?;
     Ok((Operand { name, index }, at))
 }
 
-/// Operands with that sign between, at least one.
+/// Operands with that terminal between, at least one.
 #[tactic(auto, unfolding(crate::specs::Parser::read_operand, crate::specs::Parser::read_operands, qt_expr::specs::Parser::rest_separated))]
 pub fn operands(
     alloc: Global,
@@ -125,20 +142,12 @@ pub fn target(
         let brackets = Items::new(alloc);
         return Ok((Target { name, brackets }, at));
     }
-    let (brackets, at) = all_indexes(
-        alloc,
-        tokens,
-        Nesting {
-            levels,
-            outer: None,
-        },
-        at,
-    )?;
+    let (brackets, at) = all_indexes(alloc, tokens, levels, at)?;
     Ok((Target { name, brackets }, at))
 }
 
 /// `"measure" operand`
-#[tactic(auto, unfolding(crate::specs::Parser::read_measured, crate::specs::Parser::read_operand, qt_expr::specs::Parser::read_exactly))]
+#[tactic(auto, unfolding(crate::specs::Parser::read_measured, crate::specs::Parser::read_operand, qt_lookahead::specs::OneToken::read_exactly))]
 pub fn measured(
     alloc: Global,
     tokens: &TokenStream<'_>,
@@ -165,20 +174,12 @@ pub fn right(
         let (qubits, at) = measured(alloc, tokens, levels, at)?;
         return Ok((Right::Measure { qubits }, at));
     }
-    let (value, at) = expression(
-        alloc,
-        tokens,
-        Nesting {
-            levels,
-            outer: None,
-        },
-        at,
-    )?;
+    let (value, at) = expression(alloc, tokens, levels, at)?;
     Ok((Right::Value { value }, at))
 }
 
 /// `"=" right`
-#[tactic(auto, unfolding(crate::specs::Parser::read_first_value, crate::specs::Parser::read_right, qt_expr::specs::Parser::read_exactly))]
+#[tactic(auto, unfolding(crate::specs::Parser::read_first_value, crate::specs::Parser::read_right, qt_lookahead::specs::OneToken::read_exactly))]
 pub fn first_value(
     alloc: Global,
     tokens: &TokenStream<'_>,

@@ -1,7 +1,6 @@
 //! The program of a text, or why there is none.
 
 ghost use Rattle.std.specs.Prelude.{◌≡◌, IfOk, IfErr, true, false, Err};
-ghost use Rattle.qt_terminals.specs.declared.terminal.Terminal.TheVariants as w;
 ghost use Rattle.qt_terminals.specs.Terminals.{stream, terminals};
 ghost use Rattle.qt_grammar.specs.declared.refusal.Refusal.TheVariants.{Syntax};
 ghost use Rattle.qt_grammar.specs.Promise.{OnlyProgram, CouldBegin};
@@ -10,9 +9,9 @@ ghost use Rattle.qt_parse.specs.Parser.{read_whole};
 ghost use Rattle.qt_parse.specs.Promise.{Refused};
 
 use crate::program::whole;
-use qt_expr::refusal::{ParseRefusal, located};
 use qt_grammar::refusal::Refusal;
 use qt_lex::tokens::Token;
+use qt_lookahead::refusal::{ParseRefusal, located};
 use qt_terminals::stream::TokenStream;
 use qt_terminals::terminal::Terminal;
 use qt_tree::program::Program;
@@ -37,7 +36,7 @@ fn could_begin(alloc: Global, tokens: &mut TokenStream<'_>, at: usize) -> Result
 
 /// Why the token is refused that no program has there.
 #[tactic(auto, using(crate::proofs::Promises::annotation, crate::proofs::Promises::no_annotation, crate::proofs::Promises::by_terminal))]
-fn stopped(alloc: Global, tokens: &mut TokenStream<'_>, at: usize) -> ParseRefusal
+fn refusal_at_stopper(alloc: Global, tokens: &mut TokenStream<'_>, at: usize) -> ParseRefusal
     requires { read_whole tokens.old language_limits.levels 0 ≡ Err (Syntax at) }
     ensures { Refused tokens.old result }
 {
@@ -68,7 +67,7 @@ pub fn parse(alloc: Global, text: &str, tokens: &[Token]) -> Result<Program, Par
     let mut tokens = TokenStream::new(alloc, text, tokens)?;
     match whole(alloc, &tokens) {
         Ok(program) => Ok(program),
-        Err(Refusal::Syntax(at)) => Err(stopped(alloc, &mut tokens, at)),
+        Err(Refusal::Syntax(at)) => Err(refusal_at_stopper(alloc, &mut tokens, at)),
         Err(refusal) => Err(located(&tokens, refusal)),
     }
 }

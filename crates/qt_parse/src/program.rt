@@ -12,10 +12,11 @@ use crate::arrays::array_item;
 use crate::bodies::statement_form;
 use crate::definitions::{definition, gate_item};
 use crate::items::{include, input, output, qubit_item, register_item};
-use crate::lookahead::begins_item;
-use qt_expr::one_token::{exactly, next_is};
-use qt_grammar::maximum::MOST_LEVELS;
 use qt_grammar::refusal::Refusal;
+use qt_lookahead::begins::begins_item;
+use qt_lookahead::nesting::MOST_LEVELS;
+use qt_lookahead::one_token::{exactly, next_is};
+use qt_lookahead::pieces::with_semicolon;
 use qt_terminals::stream::TokenStream;
 use qt_terminals::terminal::Terminal;
 use qt_tree::label::Label;
@@ -109,7 +110,7 @@ fn more_items(
 }
 
 /// `Integer | Decimal`, behind the terminal of a version.
-#[tactic(auto, unfolding(crate::specs::Parser::read_version_number, qt_expr::specs::Parser::read_exactly))]
+#[tactic(auto, unfolding(crate::specs::Parser::read_version_number, qt_lookahead::specs::OneToken::read_exactly))]
 fn version_number(
     alloc: Global,
     tokens: &TokenStream<'_>,
@@ -129,14 +130,14 @@ fn version_number(
 }
 
 /// `version = "OPENQASM" ( Integer | Decimal ) ";"`
-#[tactic(auto, unfolding(crate::specs::Parser::read_version, crate::specs::Parser::read_version_number, qt_expr::specs::Parser::read_exactly))]
+#[tactic(auto, unfolding(crate::specs::Parser::read_version, crate::specs::Parser::read_version_number, qt_lookahead::specs::OneToken::read_exactly))]
 fn version(alloc: Global, tokens: &TokenStream<'_>, at: usize) -> Result<(Version, usize), Refusal>
     ensures { Says (read_version tokens.now at) result }
 {
     let place = tokens.place(at);
     let at = exactly(tokens, at, Terminal::OpenQasm)?;
     let (number, at) = version_number(alloc, tokens, at)?;
-    let at = exactly(tokens, at, Terminal::Semicolon)?;
+    let (number, at) = with_semicolon(tokens, number, at)?;
     Ok((Version { place, number }, at))
 }
 

@@ -4,20 +4,22 @@ ghost use Rattle.std.specs.Prelude.{◌≡◌};
 ghost use Rattle.qt_terminals.specs.declared.terminal.Terminal.TheVariants as w;
 ghost use Rattle.qt_tree.specs.declared.statement.StatementForm.TheVariants as s;
 ghost use Rattle.qt_grammar.specs.Outcome.{Says};
-ghost use Rattle.qt_parse.specs.Parser.{read_declaration, read_optional_value, read_bit_register, read_optional_size, read_constant, read_alias, read_gate_statement, read_unnamed_call, read_measured_to, read_measurement, read_reset, read_barrier, read_keyword_alone, read_return, read_optional_right};
+ghost use Rattle.qt_parse.specs.Parser.{read_declaration, read_optional_value, read_bit_register, read_optional_size, read_constant, read_alias, read_gate_statement, read_unnamed_call, read_measured_to, read_measurement, read_reset, read_barrier, read_keyword_alone, read_return, read_optional_right, read_constant_value, read_joined_operands, read_name_and_size, read_name_and_value, read_named_constant, read_named_operands, read_typed_constant, read_typed_value};
 
-use crate::calls::{begins_modifier, modified_call, phase_call};
-use crate::lookahead::begins_right;
+use crate::calls::{modified_call, phase_call};
 use crate::operands::{any_operands, first_value, measured, operand, operands, right, target};
 use qt_expr::expression::{expression, scalar, size};
-use qt_expr::nesting::Nesting;
-use qt_expr::one_token::{exactly, label, next_is};
-use qt_expr::pieces::{ended, paired};
+use qt_expr::names::label;
 use qt_grammar::refusal::Refusal;
+use qt_lookahead::begins::{begins_modifier, begins_right};
+use qt_lookahead::one_token::{exactly, next_is};
+use qt_lookahead::pieces::{paired, with_semicolon};
 use qt_terminals::stream::TokenStream;
 use qt_terminals::terminal::Terminal;
-use qt_tree::expression::Expr;
-use qt_tree::statement::{GateCall, Right, StatementForm, Target};
+use qt_tree::expression::{Expr, Scalar};
+use qt_tree::label::Label;
+use qt_tree::statement::{GateCall, Operand, Right, StatementForm, Target};
+use sqlite_items::Items;
 use std::alloc::Global;
 
 /// `[ "=" right ]`
@@ -37,8 +39,36 @@ fn optional_value(
     Ok((Some(value), at))
 }
 
+/// `Name [ "=" right ]`
+#[tactic(auto, unfolding(crate::specs::Parser::read_name_and_value, crate::specs::Parser::read_optional_value, qt_expr::specs::Parser::read_label))]
+fn name_and_value(
+    alloc: Global,
+    tokens: &TokenStream<'_>,
+    levels: usize,
+    at: usize,
+) -> Result<((Label, Option<Right>), usize), Refusal>
+    ensures { Says (read_name_and_value tokens.now levels at) result }
+{
+    let (name, at) = label(alloc, tokens, at)?;
+    paired(name, optional_value(alloc, tokens, levels, at))
+}
+
+/// `scalar Name [ "=" right ]`
+#[tactic(auto, unfolding(crate::specs::Parser::read_typed_value, crate::specs::Parser::read_name_and_value, qt_expr::specs::Parser::read_scalar))]
+fn typed_value(
+    alloc: Global,
+    tokens: &TokenStream<'_>,
+    levels: usize,
+    at: usize,
+) -> Result<((Scalar, (Label, Option<Right>)), usize), Refusal>
+    ensures { Says (read_typed_value tokens.now levels at) result }
+{
+    let (scalar, at) = scalar(alloc, tokens, levels, at)?;
+    paired(scalar, name_and_value(alloc, tokens, levels, at))
+}
+
 /// `scalar Name [ "=" right ] ";"`
-#[tactic(auto, unfolding(crate::specs::Parser::read_declaration, crate::specs::Parser::read_optional_value, qt_expr::specs::Parser::read_scalar, qt_expr::specs::Parser::read_label, qt_expr::specs::Parser::read_exactly))]
+#[tactic(auto, unfolding(crate::specs::Parser::read_declaration, crate::specs::Parser::read_typed_value, qt_lookahead::specs::OneToken::read_exactly))]
 pub fn declaration(
     alloc: Global,
     tokens: &TokenStream<'_>,
@@ -47,18 +77,8 @@ pub fn declaration(
 ) -> Result<(StatementForm, usize), Refusal>
     ensures { Says (read_declaration tokens.now levels at) result }
 {
-    let (scalar, at) = scalar(
-        alloc,
-        tokens,
-        Nesting {
-            levels,
-            outer: None,
-        },
-        at,
-    )?;
-    let (declared, at) = paired(scalar, label(alloc, tokens, at))?;
-    let (parts, at) = paired(declared, optional_value(alloc, tokens, levels, at))?;
-    let (((scalar, name), value), at) = ended(tokens, parts, at, Terminal::Semicolon)?;
+    let (parts, at) = typed_value(alloc, tokens, levels, at)?;
+    let ((scalar, (name, value)), at) = with_semicolon(tokens, parts, at)?;
     let form = StatementForm::Declaration {
         scalar,
         name,
@@ -80,20 +100,26 @@ pub fn optional_size(
     if !next_is(tokens, at, Terminal::LeftBracket) {
         return Ok((None, at));
     }
-    let (size, at) = size(
-        alloc,
-        tokens,
-        Nesting {
-            levels,
-            outer: None,
-        },
-        at,
-    )?;
+    let (size, at) = size(alloc, tokens, levels, at)?;
     Ok((Some(size), at))
 }
 
+/// `Name [ "[" expr "]" ]`
+#[tactic(auto, unfolding(crate::specs::Parser::read_name_and_size, crate::specs::Parser::read_optional_size, qt_expr::specs::Parser::read_label))]
+pub fn name_and_size(
+    alloc: Global,
+    tokens: &TokenStream<'_>,
+    levels: usize,
+    at: usize,
+) -> Result<((Label, Option<Expr>), usize), Refusal>
+    ensures { Says (read_name_and_size tokens.now levels at) result }
+{
+    let (name, at) = label(alloc, tokens, at)?;
+    paired(name, optional_size(alloc, tokens, levels, at))
+}
+
 /// `"creg" Name [ "[" expr "]" ] ";"`
-#[tactic(auto, unfolding(crate::specs::Parser::read_bit_register, crate::specs::Parser::read_optional_size, qt_expr::specs::Parser::read_label, qt_expr::specs::Parser::read_exactly))]
+#[tactic(auto, unfolding(crate::specs::Parser::read_bit_register, crate::specs::Parser::read_name_and_size, qt_lookahead::specs::OneToken::read_exactly))]
 pub fn bit_register(
     alloc: Global,
     tokens: &TokenStream<'_>,
@@ -103,14 +129,56 @@ pub fn bit_register(
     ensures { Says (read_bit_register tokens.now levels at) result }
 {
     let at = exactly(tokens, at, Terminal::Creg)?;
-    let (name, at) = label(alloc, tokens, at)?;
-    let (parts, at) = paired(name, optional_size(alloc, tokens, levels, at))?;
-    let ((name, size), at) = ended(tokens, parts, at, Terminal::Semicolon)?;
+    let (parts, at) = name_and_size(alloc, tokens, levels, at)?;
+    let ((name, size), at) = with_semicolon(tokens, parts, at)?;
     Ok((StatementForm::BitRegister { name, size }, at))
 }
 
+/// `"=" expr`
+#[tactic(auto, unfolding(crate::specs::Parser::read_constant_value, qt_expr::specs::Parser::read_expression, qt_lookahead::specs::OneToken::read_exactly))]
+fn constant_value(
+    alloc: Global,
+    tokens: &TokenStream<'_>,
+    levels: usize,
+    at: usize,
+) -> Result<(Expr, usize), Refusal>
+    ensures { Says (read_constant_value tokens.now levels at) result }
+{
+    let at = exactly(tokens, at, Terminal::Assign)?;
+    expression(alloc, tokens, levels, at)
+}
+
+/// `Name "=" expr`
+#[tactic(auto, unfolding(crate::specs::Parser::read_named_constant, crate::specs::Parser::read_constant_value, qt_expr::specs::Parser::read_label))]
+fn named_constant(
+    alloc: Global,
+    tokens: &TokenStream<'_>,
+    levels: usize,
+    at: usize,
+) -> Result<((Label, Expr), usize), Refusal>
+    ensures { Says (read_named_constant tokens.now levels at) result }
+{
+    let (name, at) = label(alloc, tokens, at)?;
+    paired(name, constant_value(alloc, tokens, levels, at))
+}
+
+/// `"const" scalar Name "=" expr`
+#[tactic(auto, unfolding(crate::specs::Parser::read_typed_constant, crate::specs::Parser::read_named_constant, qt_expr::specs::Parser::read_scalar, qt_lookahead::specs::OneToken::read_exactly))]
+fn typed_constant(
+    alloc: Global,
+    tokens: &TokenStream<'_>,
+    levels: usize,
+    at: usize,
+) -> Result<((Scalar, (Label, Expr)), usize), Refusal>
+    ensures { Says (read_typed_constant tokens.now levels at) result }
+{
+    let at = exactly(tokens, at, Terminal::Const)?;
+    let (scalar, at) = scalar(alloc, tokens, levels, at)?;
+    paired(scalar, named_constant(alloc, tokens, levels, at))
+}
+
 /// `"const" scalar Name "=" expr ";"`
-#[tactic(auto, unfolding(crate::specs::Parser::read_constant, qt_expr::specs::Parser::read_scalar, qt_expr::specs::Parser::read_label, qt_expr::specs::Parser::read_expression, qt_expr::specs::Parser::read_exactly))]
+#[tactic(auto, unfolding(crate::specs::Parser::read_constant, crate::specs::Parser::read_typed_constant, qt_lookahead::specs::OneToken::read_exactly))]
 pub fn constant(
     alloc: Global,
     tokens: &TokenStream<'_>,
@@ -119,29 +187,8 @@ pub fn constant(
 ) -> Result<(StatementForm, usize), Refusal>
     ensures { Says (read_constant tokens.now levels at) result }
 {
-    let at = exactly(tokens, at, Terminal::Const)?;
-    let (scalar, at) = scalar(
-        alloc,
-        tokens,
-        Nesting {
-            levels,
-            outer: None,
-        },
-        at,
-    )?;
-    let (declared, at) = paired(scalar, label(alloc, tokens, at))?;
-    let (declared, at) = ended(tokens, declared, at, Terminal::Assign)?;
-    let value = expression(
-        alloc,
-        tokens,
-        Nesting {
-            levels,
-            outer: None,
-        },
-        at,
-    );
-    let (parts, at) = paired(declared, value)?;
-    let (((scalar, name), value), at) = ended(tokens, parts, at, Terminal::Semicolon)?;
+    let (parts, at) = typed_constant(alloc, tokens, levels, at)?;
+    let ((scalar, (name, value)), at) = with_semicolon(tokens, parts, at)?;
     let form = StatementForm::Constant {
         scalar,
         name,
@@ -150,8 +197,36 @@ pub fn constant(
     Ok((form, at))
 }
 
+/// `"=" operand { "++" operand }`
+#[tactic(auto, unfolding(crate::specs::Parser::read_joined_operands, crate::specs::Parser::read_operands, qt_lookahead::specs::OneToken::read_exactly))]
+fn joined_operands(
+    alloc: Global,
+    tokens: &TokenStream<'_>,
+    levels: usize,
+    at: usize,
+) -> Result<(Items<Operand>, usize), Refusal>
+    ensures { Says (read_joined_operands tokens.now levels at) result }
+{
+    let at = exactly(tokens, at, Terminal::Assign)?;
+    operands(alloc, tokens, levels, at, Terminal::PlusPlus)
+}
+
+/// `Name "=" operand { "++" operand }`
+#[tactic(auto, unfolding(crate::specs::Parser::read_named_operands, crate::specs::Parser::read_joined_operands, qt_expr::specs::Parser::read_label))]
+fn named_operands(
+    alloc: Global,
+    tokens: &TokenStream<'_>,
+    levels: usize,
+    at: usize,
+) -> Result<((Label, Items<Operand>), usize), Refusal>
+    ensures { Says (read_named_operands tokens.now levels at) result }
+{
+    let (name, at) = label(alloc, tokens, at)?;
+    paired(name, joined_operands(alloc, tokens, levels, at))
+}
+
 /// `"let" Name "=" operand { "++" operand } ";"`
-#[tactic(auto, unfolding(crate::specs::Parser::read_alias, crate::specs::Parser::read_operands, qt_expr::specs::Parser::read_label, qt_expr::specs::Parser::read_exactly))]
+#[tactic(auto, unfolding(crate::specs::Parser::read_alias, crate::specs::Parser::read_named_operands, qt_lookahead::specs::OneToken::read_exactly))]
 pub fn alias(
     alloc: Global,
     tokens: &TokenStream<'_>,
@@ -161,10 +236,8 @@ pub fn alias(
     ensures { Says (read_alias tokens.now levels at) result }
 {
     let at = exactly(tokens, at, Terminal::Let)?;
-    let (name, at) = label(alloc, tokens, at)?;
-    let at = exactly(tokens, at, Terminal::Assign)?;
-    let (parts, at) = operands(alloc, tokens, levels, at, Terminal::PlusPlus)?;
-    let at = exactly(tokens, at, Terminal::Semicolon)?;
+    let (parts, at) = named_operands(alloc, tokens, levels, at)?;
+    let ((name, parts), at) = with_semicolon(tokens, parts, at)?;
     Ok((StatementForm::Alias { name, parts }, at))
 }
 
@@ -186,7 +259,7 @@ fn unnamed_call(
 }
 
 /// A statement that is such a gate call.
-#[tactic(auto, unfolding(crate::specs::Parser::read_gate_statement, crate::specs::Parser::read_unnamed_call, qt_expr::specs::Parser::read_exactly))]
+#[tactic(auto, unfolding(crate::specs::Parser::read_gate_statement, crate::specs::Parser::read_unnamed_call, qt_lookahead::specs::OneToken::read_exactly))]
 pub fn gate_statement(
     alloc: Global,
     tokens: &TokenStream<'_>,
@@ -196,12 +269,12 @@ pub fn gate_statement(
     ensures { Says (read_gate_statement tokens.now levels at) result }
 {
     let (call, at) = unnamed_call(alloc, tokens, levels, at)?;
-    let (call, at) = ended(tokens, call, at, Terminal::Semicolon)?;
+    let (call, at) = with_semicolon(tokens, call, at)?;
     Ok((StatementForm::Gate { call }, at))
 }
 
 /// `[ "->" target ]`
-#[tactic(auto, unfolding(crate::specs::Parser::read_measured_to, crate::specs::Parser::read_target, qt_expr::specs::Parser::read_exactly))]
+#[tactic(auto, unfolding(crate::specs::Parser::read_measured_to, crate::specs::Parser::read_target, qt_lookahead::specs::OneToken::read_exactly))]
 fn measured_to(
     alloc: Global,
     tokens: &TokenStream<'_>,
@@ -219,7 +292,7 @@ fn measured_to(
 }
 
 /// `"measure" operand [ "->" target ] ";"`
-#[tactic(auto, unfolding(crate::specs::Parser::read_measurement, crate::specs::Parser::read_measured, crate::specs::Parser::read_measured_to, qt_expr::specs::Parser::read_exactly))]
+#[tactic(auto, unfolding(crate::specs::Parser::read_measurement, crate::specs::Parser::read_measured, crate::specs::Parser::read_measured_to, qt_lookahead::specs::OneToken::read_exactly))]
 pub fn measurement(
     alloc: Global,
     tokens: &TokenStream<'_>,
@@ -230,12 +303,12 @@ pub fn measurement(
 {
     let (qubits, at) = measured(alloc, tokens, levels, at)?;
     let (parts, at) = paired(qubits, measured_to(alloc, tokens, levels, at))?;
-    let ((qubits, target), at) = ended(tokens, parts, at, Terminal::Semicolon)?;
+    let ((qubits, target), at) = with_semicolon(tokens, parts, at)?;
     Ok((StatementForm::Measure { qubits, target }, at))
 }
 
 /// `"reset" operand ";"`
-#[tactic(auto, unfolding(crate::specs::Parser::read_reset, crate::specs::Parser::read_operand, qt_expr::specs::Parser::read_exactly))]
+#[tactic(auto, unfolding(crate::specs::Parser::read_reset, crate::specs::Parser::read_operand, qt_lookahead::specs::OneToken::read_exactly))]
 pub fn reset(
     alloc: Global,
     tokens: &TokenStream<'_>,
@@ -246,12 +319,12 @@ pub fn reset(
 {
     let at = exactly(tokens, at, Terminal::Reset)?;
     let (qubits, at) = operand(alloc, tokens, levels, at)?;
-    let (qubits, at) = ended(tokens, qubits, at, Terminal::Semicolon)?;
+    let (qubits, at) = with_semicolon(tokens, qubits, at)?;
     Ok((StatementForm::Reset { qubits }, at))
 }
 
 /// `"barrier" [ operands ] ";"`
-#[tactic(auto, unfolding(crate::specs::Parser::read_barrier, crate::specs::Parser::read_any_operands, qt_expr::specs::Parser::read_exactly))]
+#[tactic(auto, unfolding(crate::specs::Parser::read_barrier, crate::specs::Parser::read_any_operands, qt_lookahead::specs::OneToken::read_exactly))]
 pub fn barrier(
     alloc: Global,
     tokens: &TokenStream<'_>,
@@ -262,7 +335,7 @@ pub fn barrier(
 {
     let at = exactly(tokens, at, Terminal::Barrier)?;
     let (qubits, at) = any_operands(alloc, tokens, levels, at)?;
-    let at = exactly(tokens, at, Terminal::Semicolon)?;
+    let (qubits, at) = with_semicolon(tokens, qubits, at)?;
     Ok((StatementForm::Barrier { qubits }, at))
 }
 
@@ -284,7 +357,7 @@ fn optional_right(
 }
 
 /// `"return" [ right ] ";"`
-#[tactic(auto, unfolding(crate::specs::Parser::read_return, crate::specs::Parser::read_optional_right, qt_expr::specs::Parser::read_exactly))]
+#[tactic(auto, unfolding(crate::specs::Parser::read_return, crate::specs::Parser::read_optional_right, qt_lookahead::specs::OneToken::read_exactly))]
 pub fn return_statement(
     alloc: Global,
     tokens: &TokenStream<'_>,
@@ -295,12 +368,12 @@ pub fn return_statement(
 {
     let at = exactly(tokens, at, Terminal::Return)?;
     let (value, at) = optional_right(alloc, tokens, levels, at)?;
-    let (value, at) = ended(tokens, value, at, Terminal::Semicolon)?;
+    let (value, at) = with_semicolon(tokens, value, at)?;
     Ok((StatementForm::Return { value }, at))
 }
 
 /// `"break" ";"`
-#[tactic(auto, unfolding(crate::specs::Parser::read_keyword_alone, qt_expr::specs::Parser::read_exactly))]
+#[tactic(auto, unfolding(crate::specs::Parser::read_keyword_alone, qt_lookahead::specs::OneToken::read_exactly))]
 pub fn break_statement(
     tokens: &TokenStream<'_>,
     at: usize,
@@ -308,12 +381,11 @@ pub fn break_statement(
     ensures { Says (read_keyword_alone tokens.now w.Break s.Break at) result }
 {
     let at = exactly(tokens, at, Terminal::Break)?;
-    let at = exactly(tokens, at, Terminal::Semicolon)?;
-    Ok((StatementForm::Break, at))
+    with_semicolon(tokens, StatementForm::Break, at)
 }
 
 /// `"continue" ";"`
-#[tactic(auto, unfolding(crate::specs::Parser::read_keyword_alone, qt_expr::specs::Parser::read_exactly))]
+#[tactic(auto, unfolding(crate::specs::Parser::read_keyword_alone, qt_lookahead::specs::OneToken::read_exactly))]
 pub fn continue_statement(
     tokens: &TokenStream<'_>,
     at: usize,
@@ -321,16 +393,14 @@ pub fn continue_statement(
     ensures { Says (read_keyword_alone tokens.now w.Continue s.Continue at) result }
 {
     let at = exactly(tokens, at, Terminal::Continue)?;
-    let at = exactly(tokens, at, Terminal::Semicolon)?;
-    Ok((StatementForm::Continue, at))
+    with_semicolon(tokens, StatementForm::Continue, at)
 }
 
 /// `"end" ";"`
-#[tactic(auto, unfolding(crate::specs::Parser::read_keyword_alone, qt_expr::specs::Parser::read_exactly))]
+#[tactic(auto, unfolding(crate::specs::Parser::read_keyword_alone, qt_lookahead::specs::OneToken::read_exactly))]
 pub fn end_statement(tokens: &TokenStream<'_>, at: usize) -> Result<(StatementForm, usize), Refusal>
     ensures { Says (read_keyword_alone tokens.now w.EndWord s.End at) result }
 {
     let at = exactly(tokens, at, Terminal::EndWord)?;
-    let at = exactly(tokens, at, Terminal::Semicolon)?;
-    Ok((StatementForm::End, at))
+    with_semicolon(tokens, StatementForm::End, at)
 }

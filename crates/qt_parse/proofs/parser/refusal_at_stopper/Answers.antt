@@ -1,9 +1,9 @@
 use Rattle.std.proofs.Common.{◌≡◌, ◌∙◌, sym, subst}
 use Rattle.qt_tree.specs.declared.refusal.Feature.TheVariants.{Annotation}
-use Rattle.qt_expr.specs.declared.refusal.ParseRefusal.TheVariants.{NotInProfile}
+use Rattle.qt_lookahead.specs.declared.refusal.ParseRefusal.TheVariants.{NotInProfile}
 use Rattle.qt_parse.specs.Promise.{Refused}
 use Rattle.qt_parse.proofs.Promises.{annotation}
-use Rattle.qt_parse.proofs.parser.stopped.Goals as goal
+use Rattle.qt_parse.proofs.parser.refusal_at_stopper.Goals as goal
 
 pub returns-in-Ok-true : goal.returns-in-Ok-true
 returns-in-Ok-true c =
