@@ -5,7 +5,7 @@ use Rattle.qt_terminals.specs.Terminals.{PlacedTerminal, stream}
 use Rattle.qt_grammar.specs.declared.refusal.Refusal.{Refusal}
 use Rattle.qt_grammar.specs.Sorts.{expr}
 use Rattle.qt_grammar.specs.Language.{expression}
-use Rattle.qt_grammar.specs.Reading.{limits_at}
+use Rattle.qt_grammar.specs.Spelling.{limits_at}
 use Rattle.qt_grammar.specs.Promise.{Answers}
 use Rattle.qt_lookahead.specs.declared.refusal.ParseRefusal.{ParseRefusal}
 use Rattle.qt_lookahead.specs.Refusals.{located}

@@ -2,12 +2,12 @@
 
 ghost use Rattle.std.specs.Prelude.{◌≤◌};
 ghost use Rattle.qt_terminals.specs.Terminals.{terminals};
-ghost use Rattle.qt_grammar.specs.Reading.{language_limits};
+ghost use Rattle.qt_grammar.specs.Spelling.{language_limits};
 ghost use Rattle.qt_expr.specs.Answers.{AnswersExpression};
 
 use crate::expression::expression;
+use qt_grammar::maximum::MOST_LEVELS;
 use qt_lex::tokens::Token;
-use qt_lookahead::nesting::MOST_LEVELS;
 use qt_lookahead::refusal::{ParseRefusal, located};
 use qt_terminals::stream::TokenStream;
 use qt_tree::expression::Expr;

@@ -7,7 +7,7 @@ use Rattle.qt_grammar.specs.declared.refusal.Refusal.TheVariants.{Syntax}
 use Rattle.qt_grammar.specs.Form.{member, terminal_at}
 use Rattle.qt_grammar.specs.Outcome.{Outcome}
 pub use Rattle.qt_grammar.specs.Outcome.{Says}
-use Rattle.qt_grammar.specs.Reading.{language_limits}
+use Rattle.qt_grammar.specs.Spelling.{language_limits}
 
 -- the place behind a token, where the outcome is that token and that place
 abbrev pub Steps : {A : Type 0} → Outcome A → A → Result ℕ Refusal → Type 0

@@ -1,4 +1,4 @@
-//! Where a form stands, and the limits of the language.
+//! Where a form stands.
 
 ghost use Rattle.std.specs.Prelude.{◌≡◌, ◌-◌, ◌<◌, None, if◌then◌else◌};
 ghost use Rattle.qt_terminals.specs.Terminals.{stream};
@@ -7,12 +7,6 @@ ghost use Rattle.qt_grammar.specs.declared.refusal.Refusal.TheVariants.{Syntax, 
 
 use qt_grammar::refusal::Refusal;
 use qt_terminals::stream::TokenStream;
-
-/// In how many parentheses, brackets, braces, bodies, unary operators and right sides of `**` a token stands at most.
-pub const MOST_LEVELS: usize = 64;
-
-/// How many operators an expression has at most that stands in no other.
-pub const MOST_OPERATORS: usize = 256;
 
 /// How many levels of nesting may still be opened below a form, and how many operators of the text stand before the outermost
 /// expression round it, which is `None` where no expression stands round it.

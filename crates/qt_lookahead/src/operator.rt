@@ -10,7 +10,7 @@ ghost use Rattle.qt_grammar.specs.Language as language;
 ghost use Rattle.qt_grammar.specs.declared.refusal.Refusal.TheVariants.{Nest};
 ghost use Rattle.qt_lookahead.specs.OneToken.{cap};
 
-use crate::nesting::{MOST_OPERATORS, Nesting};
+use crate::nesting::Nesting;
 use crate::one_token::behind;
 use qt_grammar::maximum::MOST_OPERATORS;
 use qt_grammar::refusal::Refusal;

@@ -14,8 +14,8 @@ use Rattle.qt_grammar.specs.declared.refusal.Refusal.TheVariants.{Syntax, Nest, 
 use Rattle.qt_grammar.specs.Spelling.{language_limits}
 use Rattle.qt_grammar.specs.Promise.{OnlyProgram, Parses}
 use Rattle.qt_grammar.proofs.Theorems.{one_parse}
-use Rattle.qt_expr.specs.declared.refusal.ParseRefusal.{ParseRefusal}
-use Rattle.qt_expr.specs.declared.refusal.ParseRefusal.TheVariants as p
+use Rattle.qt_lookahead.specs.declared.refusal.ParseRefusal.{ParseRefusal}
+use Rattle.qt_lookahead.specs.declared.refusal.ParseRefusal.TheVariants as p
 use Rattle.qt_parse.specs.Promise.{Refused, StopsAt, TooDeepAt, IsOfFeature}
 use Rattle.qt_read.specs.Reading.{SpellsOnly, IsStopped, refusal_of}
 

@@ -11,8 +11,8 @@ use Rattle.qt_lex.specs.Tokens.{GivesTokens, FailsAt}
 use Rattle.qt_terminals.specs.Terminals.{terminals, stream}
 use Rattle.qt_grammar.specs.Spelling.{language_limits}
 use Rattle.qt_grammar.specs.Promise.{OnlyProgram}
-use Rattle.qt_expr.specs.declared.refusal.ParseRefusal.{ParseRefusal}
-use Rattle.qt_expr.specs.declared.refusal.ParseRefusal.TheVariants as p
+use Rattle.qt_lookahead.specs.declared.refusal.ParseRefusal.{ParseRefusal}
+use Rattle.qt_lookahead.specs.declared.refusal.ParseRefusal.TheVariants as p
 use Rattle.qt_parse.specs.Promise.{Refused}
 
 -- the most bytes that a text may have

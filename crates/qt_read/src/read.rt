@@ -4,9 +4,9 @@ ghost use Rattle.std.specs.Prelude.{◌≡◌, ◌≤◌, ℕ, length, IfOk, IfE
 ghost use Rattle.std.specs.Str.{IsUtf8};
 ghost use Rattle.qt_read.specs.Reading.{IsTextOfProgram, IsReason, most_bytes};
 
-use qt_expr::refusal::ParseRefusal;
 use qt_lex::lexer::lex;
 use qt_lex::tokens::LexRefusal;
+use qt_lookahead::refusal::ParseRefusal;
 use qt_parse::parser::parse;
 use qt_tree::label::Label;
 use qt_tree::program::Program;

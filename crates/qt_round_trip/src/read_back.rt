@@ -6,9 +6,9 @@ ghost use Rattle.qt_round_trip.specs.declared.read_back.Unread.TheVariants.{OutO
 ghost use Rattle.qt_round_trip.specs.Places.{SameButPlaces};
 ghost use Rattle.qt_round_trip.specs.ReadBack.{WasRead, IsTextOf, IsUnread, unread_of};
 
-use qt_expr::refusal::ParseRefusal;
 use qt_lex::lexer::lex;
 use qt_lex::tokens::LexRefusal;
+use qt_lookahead::refusal::ParseRefusal;
 use qt_outside::faults;
 use qt_parse::parser::parse;
 use qt_print::print;

@@ -2,7 +2,7 @@ use Rattle.std.proofs.Common.{ap, Err, sym, subst}
 use Rattle.qt_tree.specs.declared.refusal.TextRefusal.TheVariants as refusal
 use Rattle.qt_read.specs.Reading.{IsRefused, no_token}
 use Rattle.qt_lex.specs.Tokens.{FailsAt}
-use Rattle.qt_expr.specs.declared.refusal.ParseRefusal.TheVariants as p
+use Rattle.qt_lookahead.specs.declared.refusal.ParseRefusal.TheVariants as p
 use Rattle.qt_read.proofs.Steps.{has_tokens, program_of, reason_of}
 use Rattle.qt_read.proofs.read.read.Goals as goal
 
