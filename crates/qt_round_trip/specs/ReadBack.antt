@@ -4,8 +4,8 @@ use Rattle.qt_tree.specs.declared.program.Program.{Program}
 use Rattle.qt_lex.specs.declared.tokens.Token.{Token}
 use Rattle.qt_lex.specs.Tokens.{GivesTokens, FailsAt}
 use Rattle.qt_terminals.specs.Terminals.{terminals}
-use Rattle.qt_expr.specs.declared.refusal.ParseRefusal.{ParseRefusal}
-use Rattle.qt_expr.specs.declared.refusal.ParseRefusal.TheVariants as p
+use Rattle.qt_lookahead.specs.declared.refusal.ParseRefusal.{ParseRefusal}
+use Rattle.qt_lookahead.specs.declared.refusal.ParseRefusal.TheVariants as p
 use Rattle.qt_parse.specs.Promise.{Refused}
 use Rattle.qt_round_trip.specs.declared.read_back.Unread.{Unread}
 use Rattle.qt_round_trip.specs.declared.read_back.Unread.TheVariants as u
