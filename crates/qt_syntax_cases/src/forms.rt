@@ -6,12 +6,12 @@ use qt_expr::expression::{
     all_indexes, arguments, expression, expressions, in_parentheses, index, indexes, range, scalar,
     set, size,
 };
-use qt_expr::nesting::Nesting;
-use qt_expr::one_token::{label, names};
+use qt_expr::names::{label, names};
 use qt_expr::parse_expr::parse_expr;
-use qt_expr::refusal::ParseRefusal;
+use qt_grammar::maximum::MOST_LEVELS;
 use qt_grammar::refusal::Refusal;
 use qt_lex::tokens::Token;
+use qt_lookahead::refusal::ParseRefusal;
 use qt_terminals::stream::TokenStream;
 use std::alloc::{AllocError, Global};
 use std::str::SplitWhitespace;
@@ -91,24 +91,21 @@ fn behind_form(
     tokens: &TokenStream<'_>,
     at: usize,
 ) -> Result<usize, Refusal> {
-    let nesting = Nesting {
-        levels: 64,
-        outer: None,
-    };
+    let levels = MOST_LEVELS;
     match form {
         "label" => behind_of(label(alloc, tokens, at)),
         "names" => behind_of(names(alloc, tokens, at)),
-        "in_parentheses" => behind_of(in_parentheses(alloc, tokens, nesting, at)),
-        "size" => behind_of(size(alloc, tokens, nesting, at)),
-        "arguments" => behind_of(arguments(alloc, tokens, nesting, at)),
-        "scalar" => behind_of(scalar(alloc, tokens, nesting, at)),
-        "set" => behind_of(set(alloc, tokens, nesting, at)),
-        "indexes" => behind_of(indexes(alloc, tokens, nesting, at)),
-        "all_indexes" => behind_of(all_indexes(alloc, tokens, nesting, at)),
-        "expression" => behind_of(expression(alloc, tokens, nesting, at)),
-        "expressions" => behind_of(expressions(alloc, tokens, nesting, at)),
-        "index" => behind_of(index(alloc, tokens, nesting, at)),
-        "range" => behind_of(range(alloc, tokens, nesting, at)),
+        "in_parentheses" => behind_of(in_parentheses(alloc, tokens, levels, at)),
+        "size" => behind_of(size(alloc, tokens, levels, at)),
+        "arguments" => behind_of(arguments(alloc, tokens, levels, at)),
+        "scalar" => behind_of(scalar(alloc, tokens, levels, at)),
+        "set" => behind_of(set(alloc, tokens, levels, at)),
+        "indexes" => behind_of(indexes(alloc, tokens, levels, at)),
+        "all_indexes" => behind_of(all_indexes(alloc, tokens, levels, at)),
+        "expression" => behind_of(expression(alloc, tokens, levels, at)),
+        "expressions" => behind_of(expressions(alloc, tokens, levels, at)),
+        "index" => behind_of(index(alloc, tokens, levels, at)),
+        "range" => behind_of(range(alloc, tokens, levels, at)),
         _ => Err(Refusal::Syntax(at)),
     }
 }

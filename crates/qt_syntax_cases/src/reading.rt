@@ -3,8 +3,8 @@
 use crate::programs::write_program;
 use crate::refusals::write_line;
 use crate::statements::write_place;
-use qt_expr::refusal::ParseRefusal;
 use qt_lex::tokens::Token;
+use qt_lookahead::refusal::ParseRefusal;
 use qt_parse::parser::parse;
 use qt_read::read::read;
 use std::alloc::{AllocError, Global};
