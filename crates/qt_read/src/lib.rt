@@ -10,5 +10,3 @@
 pub mod laws;
 pub mod line;
 pub mod read;
-#[cfg(test)]
-mod tests;
