@@ -19,8 +19,8 @@ use Rattle.qt_grammar.specs.Promise.{OnlyProgram, CouldBegin}
 use Rattle.qt_grammar.proofs.Lists.{reading}
 use Rattle.qt_grammar.proofs.Tables.{tested_whole}
 use Rattle.qt_grammar.proofs.Parsers.{program_parses, barrier_begins, barrier_refused, form_decides}
-use Rattle.qt_expr.specs.declared.refusal.ParseRefusal.{ParseRefusal}
-use Rattle.qt_expr.specs.declared.refusal.ParseRefusal.TheVariants as p
+use Rattle.qt_lookahead.specs.declared.refusal.ParseRefusal.{ParseRefusal}
+use Rattle.qt_lookahead.specs.declared.refusal.ParseRefusal.TheVariants as p
 use Rattle.qt_parse.specs.Promise.{Refused, StopsAt}
 
 is_at : (terminal : Terminal) → (terminal ≡ w.At) ⊎ (terminal ≡ w.At → ⊥)
