@@ -6,7 +6,7 @@ use Rattle.qt_root2.specs.declared.mass.Reduced.{Reduced}
 use Rattle.qt_root2.specs.Real.{Real, zero_real, plus_real}
 use Rattle.qt_root2.specs.Masses.{real_of_reduced}
 use Rattle.qt_root2.proofs.Reals.{zero_real-plus}
-use Rattle.qt_plain.specs.Mass.{mass}
+use Rattle.qt_mass.specs.Mass.{mass}
 use Rattle.qt_report.specs.declared.distribution.Chance.{Chance}
 use Rattle.qt_run.specs.Tree.{Point}
 use Rattle.qt_run.specs.Distribution.{same_values, part, share, Before, AllAfter, Ascend, IsDistribution}
