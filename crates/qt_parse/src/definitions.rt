@@ -10,7 +10,7 @@ ghost use Rattle.qt_parse.specs.Parser.{read_any_names, read_gate_line_form, rea
 
 use crate::bodies::braced;
 use crate::calls::gate_call;
-use crate::items::{qubits, scalar_and_name};
+use crate::items::qubits;
 use qt_expr::expression::scalar;
 use qt_expr::names::{label, names};
 use qt_grammar::refusal::Refusal;
@@ -265,7 +265,7 @@ pub fn gate_item(
 }
 
 /// `param = scalar Name | "qubit" [ "[" expr "]" ] Name`
-#[tactic(auto, unfolding(crate::specs::Parser::read_parameter, crate::specs::Parser::read_qubits, crate::specs::Parser::read_scalar_and_name))]
+#[tactic(auto, unfolding(crate::specs::Parser::read_parameter, crate::specs::Parser::read_qubits, qt_expr::specs::Parser::read_scalar, qt_expr::specs::Parser::read_label))]
 fn parameter(
     alloc: Global,
     tokens: &TokenStream<'_>,
@@ -275,7 +275,8 @@ fn parameter(
     ensures { Says (read_parameter tokens.now levels at) result }
 {
     if begins_scalar(tokens, at) {
-        let ((scalar, name), at) = scalar_and_name(alloc, tokens, levels, at)?;
+        let (scalar, at) = scalar(alloc, tokens, levels, at)?;
+        let ((scalar, name), at) = paired(scalar, label(alloc, tokens, at))?;
         return Ok((Parameter::Classical { scalar, name }, at));
     }
     let ((size, name), at) = qubits(alloc, tokens, levels, at)?;
