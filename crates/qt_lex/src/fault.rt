@@ -50,7 +50,7 @@ fn fault_in(text: &[u8], file: u16) -> Option<Place>
 }
 
 /// The place of the first character where no token begins, or of the first comment or text in quotes that isn't closed;
-/// none where the text gives tokens. It needs no memory, so it answers for every text. `file` is the number of the text.
+/// none where the text gives tokens. It needs no memory, so it answers for every text of at most 2^31 bytes. `file` is the number of the text.
 pub fn first_fault(text: &str, file: u16) -> Option<Place>
     requires { length text.now ≤ 2 ^ 31 }
     ensures none { IsNone result ↔ (tokens : List Token) × GivesTokens text.now file tokens }

@@ -13,9 +13,10 @@ ghost use Rattle.qt_lex.specs.declared.tokens.LexRefusal.TheVariants as refusal;
 use crate::bits::is_long_bit_string;
 use crate::number::number_at;
 use crate::scan::{
-    CONSTANTS, EULER_SIGNS, RESERVED_WORDS, SYMBOLS, byte_at, digits_end, is_blank, is_digit,
+    byte_at, digits_end, is_blank, is_digit,
     is_name_start, letters_end, longest_in, word_end,
 };
+use crate::spellings::{CONSTANTS, EULER_SIGNS, RESERVED_WORDS, SYMBOLS};
 use crate::tokens::{Kind, LexRefusal, Token};
 use qt_tree::place::Place;
 use std::alloc::Global;

@@ -14,4 +14,5 @@ pub mod laws;
 pub mod lexer;
 mod number;
 mod scan;
+pub mod spellings;
 pub mod tokens;

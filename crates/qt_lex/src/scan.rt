@@ -1,78 +1,7 @@
-//! Bytes at places, runs of bytes, and tables of texts.
+//! Bytes at places and runs of bytes.
 
 ghost use Rattle.std.specs.Prelude.{◌≡◌, ◌+◌, ◌<◌, ◌≤◌, ℕ, true, false, length, map};
 ghost use Rattle.qt_lex.specs.Bytes as spec;
-
-pub const RESERVED_WORDS: [&[u8]; 53] = [
-    b"OPENQASM",
-    b"include",
-    b"qubit",
-    b"qreg",
-    b"bit",
-    b"creg",
-    b"bool",
-    b"int",
-    b"uint",
-    b"angle",
-    b"array",
-    b"const",
-    b"let",
-    b"input",
-    b"output",
-    b"gate",
-    b"def",
-    b"return",
-    b"measure",
-    b"reset",
-    b"barrier",
-    b"if",
-    b"else",
-    b"while",
-    b"for",
-    b"in",
-    b"break",
-    b"continue",
-    b"end",
-    b"ctrl",
-    b"negctrl",
-    b"inv",
-    b"pow",
-    b"gphase",
-    b"true",
-    b"false",
-    b"sizeof",
-    b"float",
-    b"complex",
-    b"duration",
-    b"stretch",
-    b"delay",
-    b"box",
-    b"durationof",
-    b"cal",
-    b"defcal",
-    b"defcalgrammar",
-    b"extern",
-    b"pragma",
-    b"euler",
-    b"switch",
-    b"case",
-    b"default",
-];
-
-pub const CONSTANTS: [&[u8]; 4] = [b"pi", b"tau", b"\xCF\x80", b"\xCF\x84"];
-
-pub const EULER_SIGNS: [&[u8]; 1] = [b"\xE2\x84\x87"];
-
-pub const SYMBOLS: [&[u8]; 45] = [
-    b"(", b")", b"[", b"]", b"{", b"}", b";", b",", b":", b"@", b"->", b"=", b"==", b"!=", b"<",
-    b"<=", b">", b">=", b"<<", b">>", b"+", b"-", b"*", b"/", b"%", b"**", b"++", b"&", b"&&",
-    b"|", b"||", b"^", b"!", b"~", b"+=", b"-=", b"*=", b"/=", b"%=", b"**=", b"&=", b"|=", b"^=",
-    b"<<=", b">>=",
-];
-
-pub const TIME_UNITS: [&[u8]; 6] = [b"dt", b"ns", b"us", b"\xC2\xB5s", b"ms", b"s"];
-
-pub const IMAGINARY_UNITS: [&[u8]; 1] = [b"im"];
 
 /// The byte at a place, 0 behind the end.
 pub fn byte_at(text: &[u8], at: usize) -> u8

@@ -55,7 +55,7 @@ pub fn include(
 
 /// `scalar Name`
 #[tactic(auto, unfolding(crate::specs::Parser::read_scalar_and_name, qt_expr::specs::Parser::read_scalar, qt_expr::specs::Parser::read_label))]
-pub fn scalar_and_name(
+fn scalar_and_name(
     alloc: Global,
     tokens: &TokenStream<'_>,
     levels: usize,

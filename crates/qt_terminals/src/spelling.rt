@@ -1,137 +1,151 @@
 //! The terminal of a token, by its kind and its spelling.
 
 ghost use Rattle.std.specs.Prelude.{◌≡◌, map};
+ghost use Rattle.std.specs.List.{zip};
 ghost use Rattle.qt_terminals.specs.Alphabet as spec;
 
 use crate::literal::is_bit_text;
 use crate::terminal::Terminal;
+use qt_lex::spellings::{CONSTANTS, RESERVED_WORDS, SYMBOLS};
 use qt_lex::tokens::Kind;
 
-const RESERVED_WORDS: [(&[u8], Terminal); 53] = [
-    (b"OPENQASM", Terminal::OpenQasm),
-    (b"include", Terminal::Include),
-    (b"qubit", Terminal::Qubit),
-    (b"qreg", Terminal::Qreg),
-    (b"bit", Terminal::Bit),
-    (b"creg", Terminal::Creg),
-    (b"bool", Terminal::Bool),
-    (b"int", Terminal::Int),
-    (b"uint", Terminal::Uint),
-    (b"angle", Terminal::Angle),
-    (b"array", Terminal::Array),
-    (b"const", Terminal::Const),
-    (b"let", Terminal::Let),
-    (b"input", Terminal::Input),
-    (b"output", Terminal::Output),
-    (b"gate", Terminal::Gate),
-    (b"def", Terminal::Def),
-    (b"return", Terminal::Return),
-    (b"measure", Terminal::Measure),
-    (b"reset", Terminal::Reset),
-    (b"barrier", Terminal::Barrier),
-    (b"if", Terminal::If),
-    (b"else", Terminal::Else),
-    (b"while", Terminal::While),
-    (b"for", Terminal::For),
-    (b"in", Terminal::In),
-    (b"break", Terminal::Break),
-    (b"continue", Terminal::Continue),
-    (b"end", Terminal::EndWord),
-    (b"ctrl", Terminal::Ctrl),
-    (b"negctrl", Terminal::NegCtrl),
-    (b"inv", Terminal::Inv),
-    (b"pow", Terminal::Pow),
-    (b"gphase", Terminal::GPhase),
-    (b"true", Terminal::True),
-    (b"false", Terminal::False),
-    (b"sizeof", Terminal::SizeOf),
-    (b"float", Terminal::Float),
-    (b"complex", Terminal::Complex),
-    (b"duration", Terminal::Duration),
-    (b"stretch", Terminal::Stretch),
-    (b"delay", Terminal::Delay),
-    (b"box", Terminal::Box),
-    (b"durationof", Terminal::DurationOf),
-    (b"cal", Terminal::Cal),
-    (b"defcal", Terminal::DefCal),
-    (b"defcalgrammar", Terminal::DefCalGrammar),
-    (b"extern", Terminal::Extern),
-    (b"pragma", Terminal::Pragma),
-    (b"euler", Terminal::Euler),
-    (b"switch", Terminal::Switch),
-    (b"case", Terminal::Case),
-    (b"default", Terminal::Default),
+/// The terminals of the reserved words, in the order of the lexer's table.
+const RESERVED_TERMINALS: [Terminal; 53] = [
+    Terminal::OpenQasm,
+    Terminal::Include,
+    Terminal::Qubit,
+    Terminal::Qreg,
+    Terminal::Bit,
+    Terminal::Creg,
+    Terminal::Bool,
+    Terminal::Int,
+    Terminal::Uint,
+    Terminal::Angle,
+    Terminal::Array,
+    Terminal::Const,
+    Terminal::Let,
+    Terminal::Input,
+    Terminal::Output,
+    Terminal::Gate,
+    Terminal::Def,
+    Terminal::Return,
+    Terminal::Measure,
+    Terminal::Reset,
+    Terminal::Barrier,
+    Terminal::If,
+    Terminal::Else,
+    Terminal::While,
+    Terminal::For,
+    Terminal::In,
+    Terminal::Break,
+    Terminal::Continue,
+    Terminal::EndWord,
+    Terminal::Ctrl,
+    Terminal::NegCtrl,
+    Terminal::Inv,
+    Terminal::Pow,
+    Terminal::GPhase,
+    Terminal::True,
+    Terminal::False,
+    Terminal::SizeOf,
+    Terminal::Float,
+    Terminal::Complex,
+    Terminal::Duration,
+    Terminal::Stretch,
+    Terminal::Delay,
+    Terminal::Box,
+    Terminal::DurationOf,
+    Terminal::Cal,
+    Terminal::DefCal,
+    Terminal::DefCalGrammar,
+    Terminal::Extern,
+    Terminal::Pragma,
+    Terminal::Euler,
+    Terminal::Switch,
+    Terminal::Case,
+    Terminal::Default,
 ];
 
-const SYMBOLS: [(&[u8], Terminal); 45] = [
-    (b"(", Terminal::LeftParen),
-    (b")", Terminal::RightParen),
-    (b"[", Terminal::LeftBracket),
-    (b"]", Terminal::RightBracket),
-    (b"{", Terminal::LeftBrace),
-    (b"}", Terminal::RightBrace),
-    (b";", Terminal::Semicolon),
-    (b",", Terminal::Comma),
-    (b":", Terminal::Colon),
-    (b"@", Terminal::At),
-    (b"->", Terminal::Arrow),
-    (b"=", Terminal::Assign),
-    (b"==", Terminal::EqualEqual),
-    (b"!=", Terminal::NotEqual),
-    (b"<", Terminal::Less),
-    (b"<=", Terminal::LessEqual),
-    (b">", Terminal::Greater),
-    (b">=", Terminal::GreaterEqual),
-    (b"<<", Terminal::ShiftLeft),
-    (b">>", Terminal::ShiftRight),
-    (b"+", Terminal::Plus),
-    (b"-", Terminal::Minus),
-    (b"*", Terminal::Star),
-    (b"/", Terminal::Slash),
-    (b"%", Terminal::Percent),
-    (b"**", Terminal::StarStar),
-    (b"++", Terminal::PlusPlus),
-    (b"&", Terminal::And),
-    (b"&&", Terminal::AndAnd),
-    (b"|", Terminal::Or),
-    (b"||", Terminal::OrOr),
-    (b"^", Terminal::Caret),
-    (b"!", Terminal::Bang),
-    (b"~", Terminal::Tilde),
-    (b"+=", Terminal::PlusAssign),
-    (b"-=", Terminal::MinusAssign),
-    (b"*=", Terminal::StarAssign),
-    (b"/=", Terminal::SlashAssign),
-    (b"%=", Terminal::PercentAssign),
-    (b"**=", Terminal::StarStarAssign),
-    (b"&=", Terminal::AndAssign),
-    (b"|=", Terminal::OrAssign),
-    (b"^=", Terminal::CaretAssign),
-    (b"<<=", Terminal::ShiftLeftAssign),
-    (b">>=", Terminal::ShiftRightAssign),
+/// The terminals of the symbols, in the order of the lexer's table.
+const SYMBOL_TERMINALS: [Terminal; 45] = [
+    Terminal::LeftParen,
+    Terminal::RightParen,
+    Terminal::LeftBracket,
+    Terminal::RightBracket,
+    Terminal::LeftBrace,
+    Terminal::RightBrace,
+    Terminal::Semicolon,
+    Terminal::Comma,
+    Terminal::Colon,
+    Terminal::At,
+    Terminal::Arrow,
+    Terminal::Assign,
+    Terminal::EqualEqual,
+    Terminal::NotEqual,
+    Terminal::Less,
+    Terminal::LessEqual,
+    Terminal::Greater,
+    Terminal::GreaterEqual,
+    Terminal::ShiftLeft,
+    Terminal::ShiftRight,
+    Terminal::Plus,
+    Terminal::Minus,
+    Terminal::Star,
+    Terminal::Slash,
+    Terminal::Percent,
+    Terminal::StarStar,
+    Terminal::PlusPlus,
+    Terminal::And,
+    Terminal::AndAnd,
+    Terminal::Or,
+    Terminal::OrOr,
+    Terminal::Caret,
+    Terminal::Bang,
+    Terminal::Tilde,
+    Terminal::PlusAssign,
+    Terminal::MinusAssign,
+    Terminal::StarAssign,
+    Terminal::SlashAssign,
+    Terminal::PercentAssign,
+    Terminal::StarStarAssign,
+    Terminal::AndAssign,
+    Terminal::OrAssign,
+    Terminal::CaretAssign,
+    Terminal::ShiftLeftAssign,
+    Terminal::ShiftRightAssign,
 ];
 
-const CONSTANTS: [(&[u8], Terminal); 4] = [
-    (b"pi", Terminal::Pi),
-    (b"tau", Terminal::Tau),
-    (b"\xCF\x80", Terminal::Pi),
-    (b"\xCF\x84", Terminal::Tau),
+/// The terminals of the constants, in the order of the lexer's table.
+const CONSTANT_TERMINALS: [Terminal; 4] = [
+    Terminal::Pi,
+    Terminal::Tau,
+    Terminal::Pi,
+    Terminal::Tau,
 ];
 
-const HASHES: [(&[u8], Terminal); 2] = [
-    (b"#pragma", Terminal::HashPragma),
-    (b"#dim", Terminal::HashDim),
-];
+/// The spellings behind `#` that are features of their own, and their terminals.
+const HASHES: [&[u8]; 2] = [b"#pragma", b"#dim"];
 
-/// The terminal of a spelling in a table, and another terminal where it isn't there.
-fn terminal_in(mut table: &[(&[u8], Terminal)], other: Terminal, spelling: &[u8]) -> Terminal
-    ensures { result ≡ spec.terminal_in (map (λ row. (row.0.now, row.1)) table.entry.now) other spelling.now }
+const HASH_TERMINALS: [Terminal; 2] = [Terminal::HashPragma, Terminal::HashDim];
+
+/// The terminal of a spelling in a table whose terminals stand in the same order, and another terminal where it isn't there.
+fn terminal_in(
+    mut spellings: &[&[u8]],
+    mut terminals: &[Terminal],
+    other: Terminal,
+    spelling: &[u8],
+) -> Terminal
+    ensures { result ≡ spec.terminal_in (zip (map (λ row. row.now) spellings.entry.now) terminals.entry.now) other spelling.now }
 {
-    'table: while let [(terminal_spelling, terminal), rest @ ..] = table {
-        if spelling == *terminal_spelling {
+    'table: while let [first, later_spellings @ ..] = spellings {
+        let [terminal, later_terminals @ ..] = terminals else {
+            return other;
+        };
+        if spelling == *first {
             return *terminal;
         }
-        table = rest;
+        spellings = later_spellings;
+        terminals = later_terminals;
     }
     other
 }
@@ -143,7 +157,12 @@ pub fn terminal_of(kind: Kind, spelling: &[u8]) -> Terminal
 {
     match kind {
         Kind::Name => Terminal::Name,
-        Kind::Reserved => terminal_in(&RESERVED_WORDS, Terminal::Name, spelling),
+        Kind::Reserved => terminal_in(
+            &RESERVED_WORDS,
+            &RESERVED_TERMINALS,
+            Terminal::Name,
+            spelling,
+        ),
         Kind::Integer => Terminal::Integer,
         Kind::Wide => Terminal::Wide,
         Kind::Decimal => Terminal::Decimal,
@@ -157,9 +176,9 @@ pub fn terminal_of(kind: Kind, spelling: &[u8]) -> Terminal
             }
         }
         Kind::Hardware => Terminal::Hardware,
-        Kind::Hash => terminal_in(&HASHES, Terminal::Hash, spelling),
-        Kind::Symbol => terminal_in(&SYMBOLS, Terminal::Name, spelling),
-        Kind::Constant => terminal_in(&CONSTANTS, Terminal::Name, spelling),
+        Kind::Hash => terminal_in(&HASHES, &HASH_TERMINALS, Terminal::Hash, spelling),
+        Kind::Symbol => terminal_in(&SYMBOLS, &SYMBOL_TERMINALS, Terminal::Name, spelling),
+        Kind::Constant => terminal_in(&CONSTANTS, &CONSTANT_TERMINALS, Terminal::Name, spelling),
         Kind::Euler => Terminal::Euler,
         Kind::End => Terminal::End,
     }
