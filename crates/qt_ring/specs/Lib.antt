@@ -4,5 +4,6 @@ pub mod Wide
 pub mod Places
 pub mod Matrix
 pub mod State
+pub mod Multiples
 pub mod Gates
 pub mod Laws

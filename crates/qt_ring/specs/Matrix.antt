@@ -42,6 +42,12 @@ ctrl h m (true ∷ x) (true ∷ y) = m x y
 ctrl h m (false ∷ x) (false ∷ y) = identity h x y
 ctrl h m _ _ = nil
 
+-- the same, but where the qubit is 1 nothing happens, and where it is 0 the matrix acts
+abbrev pub negctrl : ℕ → Matrix → Matrix
+negctrl h m (true ∷ x) (true ∷ y) = identity h x y
+negctrl h m (false ∷ x) (false ∷ y) = m x y
+negctrl h m _ _ = nil
+
 -- a matrix on the chosen qubits as a matrix on all: its entry at the chosen bits where all other bits agree, and else 0
 abbrev pub embedded : Matrix → List ℕ → Matrix
 embedded m qs x y = kept (agree_outside 0 qs x y) (m (get qs x) (get qs y))
