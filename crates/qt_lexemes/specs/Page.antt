@@ -11,20 +11,20 @@ pub record Sheet : Type 0 where
   pub text : List ℕ
   pub last : Option Role
 
-abbrev pub sheet_of : Page → Sheet
+unfoldable pub sheet_of : Page → Sheet
 sheet_of page = record { text = string_bytes page.text; last = page.last }
 
-abbrev pub blank : Sheet
+unfoldable pub blank : Sheet
 blank = record { text = []; last = None }
 
 -- one more lexeme stands on the line
-abbrev pub put_on : Sheet → Lexeme → Sheet
+unfoldable pub put_on : Sheet → Lexeme → Sheet
 put_on sheet lexeme = record { text = sheet.text ++ (gap sheet.last lexeme.role ++ lexeme.text); last = Some lexeme.role }
 
 -- a new line begins with its margin
-abbrev pub begun : Sheet → List ℕ → Sheet
+unfoldable pub begun : Sheet → List ℕ → Sheet
 begun sheet margin = record { text = sheet.text ++ margin; last = None }
 
 -- the line ends
-abbrev pub ended : Sheet → Sheet
+unfoldable pub ended : Sheet → Sheet
 ended sheet = record { text = sheet.text ++ 10 ∷ []; last = None }

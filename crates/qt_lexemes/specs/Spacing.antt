@@ -7,7 +7,7 @@
 -- name or a closing parenthesis that a name follows; between `}` and `else`.
 use Rattle.std.specs.Prelude.{ℕ, Bool, true, false, ◌||◌, if◌then◌else◌, List, [], ◌∷◌, Option, Some, None}
 use Rattle.qt_lexemes.specs.declared.role.Role.{Role}
-use Rattle.qt_lexemes.specs.declared.role.Role.TheVariants.{Name, Integer, Decimal, Text, Constant, Keyword, Head, Else, In, Operator, Sign, Comma, Colon, Semicolon, Opening, ClosingParenthesis, ClosingBracket, ClosingBrace, BodyStart, BodyEnd}
+use Rattle.qt_lexemes.specs.declared.role.Role.TheVariants.{Name, Integer, Decimal, Text, Constant, Keyword, Head, Else, In, Operator, Comma, ClosingParenthesis, ClosingBracket, BodyStart, BodyEnd}
 
 -- a space on both sides
 abbrev pub is_spaced : Role → Bool

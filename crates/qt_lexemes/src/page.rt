@@ -34,6 +34,7 @@ fn push_gap(text: &mut String, last: Option<Role>, next: Role) -> Result<(), Out
 
 impl Page {
     /// An empty page.
+    #[tactic(auto, unfolding(crate::specs::Page::sheet_of, crate::specs::Page::blank))]
     pub fn new(alloc: Global) -> Page
         ensures { sheets.sheet_of result ≡ sheets.blank }
     {
@@ -54,6 +55,7 @@ impl Page {
     }
 
     /// Begins a line with its margin.
+    #[tactic(auto, unfolding(crate::specs::Page::sheet_of, crate::specs::Page::begun))]
     pub fn begin(&mut self, margin: &str) -> Result<(), OutOfMemory>
         ensures { OnOk result (sheets.sheet_of self.new ≡ sheets.begun (sheets.sheet_of self.old) margin.now) }
     {
@@ -63,6 +65,7 @@ impl Page {
     }
 
     /// Puts one more lexeme on the line.
+    #[tactic(auto, unfolding(crate::specs::Page::sheet_of, crate::specs::Page::put_on))]
     pub fn put(&mut self, role: Role, text: &str) -> Result<(), OutOfMemory>
         ensures { OnOk result (sheets.sheet_of self.new ≡ sheets.put_on (sheets.sheet_of self.old) (lexemes.lexeme role text.now)) }
     {
@@ -73,6 +76,7 @@ impl Page {
     }
 
     /// Puts a whole number on the line.
+    #[tactic(auto, unfolding(crate::specs::Page::sheet_of, crate::specs::Page::put_on))]
     pub fn put_number(&mut self, value: u64) -> Result<(), OutOfMemory>
         ensures { OnOk result (sheets.sheet_of self.new ≡ sheets.put_on (sheets.sheet_of self.old) (lexemes.integer value)) }
     {
@@ -83,6 +87,7 @@ impl Page {
     }
 
     /// Puts a bit string of so many digits on the line.
+    #[tactic(auto, unfolding(crate::specs::Page::sheet_of, crate::specs::Page::put_on))]
     pub fn put_bits(&mut self, value: u64, length: u8) -> Result<(), OutOfMemory>
         ensures { OnOk result (sheets.sheet_of self.new ≡ sheets.put_on (sheets.sheet_of self.old) (lexemes.bits value length)) }
     {
@@ -93,6 +98,7 @@ impl Page {
     }
 
     /// Puts a text in quotes on the line.
+    #[tactic(auto, unfolding(crate::specs::Page::sheet_of, crate::specs::Page::put_on))]
     pub fn put_quoted(&mut self, name: &str) -> Result<(), OutOfMemory>
         ensures { OnOk result (sheets.sheet_of self.new ≡ sheets.put_on (sheets.sheet_of self.old) (lexemes.quotation name.now)) }
     {
@@ -103,6 +109,7 @@ impl Page {
     }
 
     /// Ends the line.
+    #[tactic(auto, unfolding(crate::specs::Page::sheet_of, crate::specs::Page::ended))]
     pub fn end(&mut self) -> Result<(), OutOfMemory>
         ensures { OnOk result (sheets.sheet_of self.new ≡ sheets.ended (sheets.sheet_of self.old)) }
     {
@@ -112,6 +119,7 @@ impl Page {
     }
 
     /// What is written.
+    #[tactic(auto, unfolding(crate::specs::Page::sheet_of))]
     pub fn into_text(self) -> String
         ensures { string_bytes result ≡ (sheets.sheet_of self).text }
     {

@@ -10,13 +10,13 @@ use Rattle.qt_tree.specs.declared.expression.Expr.TheVariants as e
 use Rattle.qt_tree.specs.declared.expression.Scalar.TheVariants as c
 use Rattle.qt_tree.specs.declared.expression.Index.TheVariants as x
 use Rattle.qt_tree.specs.declared.expression.Expr.TheOpen as o
-use Rattle.qt_tree.specs.declared.expression.Expr.TheFolds.{fold-roll-Expr, fold-roll-Index, fold-roll-Scalar, fold-roll-Range, fold_out-Range, map-Expr, map-Index, map-Scalar, map-Range}
+use Rattle.qt_tree.specs.declared.expression.Expr.TheFolds.{fold-roll-Expr, fold-roll-Index, fold-roll-Scalar, fold_out-Range, map-Expr, map-Index, map-Scalar, map-Range}
 use Rattle.qt_tree.specs.declared.label.Label.{Label}
 use Rattle.qt_lexemes.specs.declared.role.Role.TheVariants as r
 use Rattle.qt_print.proofs.Puts.{puts_both}
-use Rattle.qt_lexemes.specs.Lexemes.{Lexeme, lexeme, name, keyword, integer, bits, operator, comma, colon, parenthesized, bracketed, braced, separated, joined, optional}
+use Rattle.qt_lexemes.specs.Lexemes.{Lexeme, lexeme, name, keyword, integer, bits, operator, colon, parenthesized, braced, joined}
 use Rattle.qt_lexemes.specs.Operators.{operator_text, sign_text, truth_text}
-use Rattle.qt_print.specs.Expressions.{indexed, expr_step, index_step, scalar_step, range_step, expr_lexemes, index_lexemes, scalar_lexemes, range_lexemes, bracket_lexemes, brackets_lexemes, list_lexemes, size_lexemes, second_lexemes, end_lexemes, step_lexemes, type_lexemes}
+use Rattle.qt_print.specs.Expressions.{indexed, expr_step, index_step, scalar_step, range_step, expr_lexemes, index_lexemes, scalar_lexemes, range_lexemes, bracket_lexemes, brackets_lexemes, list_lexemes, second_lexemes, end_lexemes, step_lexemes, type_lexemes}
 
 abbrev L : Type 0
 L = List Lexeme

@@ -1,7 +1,7 @@
 -- The lexemes of the values of arrays.
-use Rattle.std.proofs.Common.{◌≡◌, List, map, ap, sym, ◌∙◌}
+use Rattle.std.proofs.Common.{◌≡◌, List, ap, sym, ◌∙◌}
 use Rattle.qt_tree.specs.declared.expression.Expr.{Expr}
-use Rattle.qt_tree.specs.declared.program.ListItem.{ListItem, roll-ListItem}
+use Rattle.qt_tree.specs.declared.program.ListItem.{ListItem}
 use Rattle.qt_tree.specs.declared.program.ListItem.TheVariants as l
 use Rattle.qt_tree.specs.declared.program.ListItem.TheOpen as o
 use Rattle.qt_tree.specs.declared.program.ListItem.TheFolds.{fold-roll-ListItem}

@@ -1,5 +1,5 @@
 -- Putting lexemes on a page.
-use Rattle.std.proofs.Common.{◌≡◌, ℕ, suc, ◌+◌, ◌-◌, ◌<◌, ◌⊎◌, inl, inr, Bool, true, false, List, [], ◌∷◌, ◌++◌, map, drop, get_or, add-one, drop-cons, length, refl, sym, ◌∙◌, ap, subst}
+use Rattle.std.proofs.Common.{◌≡◌, ℕ, suc, ◌+◌, ◌<◌, ◌⊎◌, inl, inr, Bool, true, false, List, [], ◌∷◌, ◌++◌, map, drop, get_or, add-one, drop-cons, length, refl, sym, ◌∙◌, ap, subst}
 use Rattle.qt_lexemes.specs.Lexemes.{Lexeme, joined, each_behind, separated}
 use Rattle.qt_lexemes.specs.Page.{Sheet, put_on}
 use Rattle.qt_print.specs.Page.{puts}

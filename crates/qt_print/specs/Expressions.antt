@@ -1,6 +1,6 @@
 -- The lexemes of expressions, types, indexes and ranges, in the order of the grammar. OpenQASM 3.0 live specification, "Types
 -- and Casting", "Index sets and slicing" and "Classical instructions".
-use Rattle.std.specs.Prelude.{ℕ, List, [], ◌∷◌, ◌++◌, map, Option, Some, None, codes}
+use Rattle.std.specs.Prelude.{ℕ, List, [], ◌∷◌, ◌++◌, map, Option, codes}
 use Rattle.qt_tree.specs.declared.expression.Expr.{Expr}
 use Rattle.qt_tree.specs.declared.expression.Scalar.{Scalar}
 use Rattle.qt_tree.specs.declared.expression.Index.{Index}
@@ -90,6 +90,9 @@ type_lexemes type size = keyword type ∷ size_lexemes size
 
 abbrev pub second_lexemes : Option Expr → List Lexeme
 second_lexemes = optional (λ part. second (expr_lexemes part))
+
+abbrev pub size_arguments : List ℕ → Option Expr → List Lexeme
+size_arguments text dimension = parenthesized (name text ∷ second_lexemes dimension)
 
 abbrev pub end_lexemes : Option Expr → List Lexeme
 end_lexemes = optional expr_lexemes

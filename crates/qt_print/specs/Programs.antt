@@ -1,6 +1,6 @@
 -- The lines of a program, in the order of the grammar. OpenQASM 3.0 live specification, "Version string", "Included files",
 -- "Input/output", "Types and Casting", "Gates" and "Subroutines".
-use Rattle.std.specs.Prelude.{ℕ, List, [], ◌∷◌, ◌++◌, map, Option, Some, None, codes}
+use Rattle.std.specs.Prelude.{ℕ, List, [], ◌∷◌, ◌++◌, map, Option, codes}
 use Rattle.qt_tree.specs.declared.expression.Expr.{Expr}
 use Rattle.qt_tree.specs.declared.expression.Scalar.{Scalar}
 use Rattle.qt_tree.specs.declared.label.Label.{Label}
@@ -51,11 +51,13 @@ values_lexemes items = braced (separated comma (map item_lexemes items))
 abbrev pub valued : List ListItem → List Lexeme
 valued items = operator (codes "=") ∷ values_lexemes items
 
+-- the type of an array's elements and its dimensions
+abbrev pub shape_lexemes : Scalar → List Expr → List Lexeme
+shape_lexemes scalar dimensions = bracketed (scalar_lexemes scalar ++ each_behind comma (map expr_lexemes dimensions))
+
 abbrev pub array_lexemes : ArrayItem → List Lexeme
 array_lexemes array =
-    keyword (codes "array")
-    ∷ (bracketed (scalar_lexemes array.scalar ++ each_behind comma (map expr_lexemes array.dimensions))
-    ++ name array.name ∷ optional valued array.value)
+    keyword (codes "array") ∷ (shape_lexemes array.scalar array.dimensions ++ name array.name ∷ optional valued array.value)
 
 abbrev pub name_lexemes : List ℕ → List Lexeme
 name_lexemes text = name text ∷ []
@@ -92,10 +94,15 @@ parameter_lexemes (parameter.Qubits size text) = qubit_lexemes size text
 abbrev pub result_lexemes : Scalar → List Lexeme
 result_lexemes scalar = operator (codes "->") ∷ scalar_lexemes scalar
 
+abbrev pub listed_parameters : List Parameter → List Lexeme
+listed_parameters parameters = separated comma (map parameter_lexemes parameters)
+
+abbrev pub all_parameters : List Parameter → List Lexeme
+all_parameters parameters = parenthesized (listed_parameters parameters)
+
 abbrev pub definition_head : Definition → List Lexeme
 definition_head definition =
-    keyword (codes "def") ∷ name definition.name
-    ∷ (parenthesized (separated comma (map parameter_lexemes definition.parameters)) ++ optional result_lexemes definition.result)
+    keyword (codes "def") ∷ name definition.name ∷ (all_parameters definition.parameters ++ optional result_lexemes definition.result)
 
 abbrev pub definition_lines : Definition → List Line
 definition_lines definition = block (definition_head definition) (map statement_lines definition.body)

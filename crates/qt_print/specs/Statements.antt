@@ -4,7 +4,6 @@ use Rattle.std.specs.Prelude.{ℕ, ◌+◌, List, [], ◌∷◌, ◌++◌, map, 
 use Rattle.qt_tree.specs.declared.expression.Expr.{Expr}
 use Rattle.qt_tree.specs.declared.expression.CompoundOperator.{CompoundOperator}
 use Rattle.qt_tree.specs.declared.expression.Scalar.{Scalar}
-use Rattle.qt_tree.specs.declared.label.Label.{Label}
 use Rattle.qt_tree.specs.declared.statement.Operand.{Operand}
 use Rattle.qt_tree.specs.declared.statement.Target.{Target}
 use Rattle.qt_tree.specs.declared.statement.Right.{Right}
@@ -114,8 +113,11 @@ declaration_lexemes scalar text value = scalar_lexemes scalar ++ name text ∷ o
 abbrev pub register_lexemes : List ℕ → List ℕ → Option Expr → List Lexeme
 register_lexemes head text size = keyword head ∷ name text ∷ size_lexemes size
 
+abbrev pub named_value : List ℕ → Expr → List Lexeme
+named_value text value = name text ∷ operator (codes "=") ∷ expr_lexemes value
+
 abbrev pub constant_lexemes : Scalar → List ℕ → Expr → List Lexeme
-constant_lexemes scalar text value = keyword (codes "const") ∷ (scalar_lexemes scalar ++ name text ∷ operator (codes "=") ∷ expr_lexemes value)
+constant_lexemes scalar text value = keyword (codes "const") ∷ (scalar_lexemes scalar ++ named_value text value)
 
 abbrev pub plus_plus : Lexeme
 plus_plus = operator (codes "++")
@@ -123,8 +125,11 @@ plus_plus = operator (codes "++")
 abbrev pub parts_lexemes : List Operand → List Lexeme
 parts_lexemes parts = separated plus_plus (map operand_lexemes parts)
 
+abbrev pub named_parts : List ℕ → List Operand → List Lexeme
+named_parts text parts = name text ∷ operator (codes "=") ∷ parts_lexemes parts
+
 abbrev pub alias_lexemes : List ℕ → List Operand → List Lexeme
-alias_lexemes text parts = keyword (codes "let") ∷ name text ∷ operator (codes "=") ∷ parts_lexemes parts
+alias_lexemes text parts = keyword (codes "let") ∷ named_parts text parts
 
 abbrev pub assignment_lexemes : Target → Right → List Lexeme
 assignment_lexemes target value = target_lexemes target ++ assigned value
@@ -154,8 +159,11 @@ return_lexemes value = keyword (codes "return") ∷ optional right_lexemes value
 abbrev pub condition_lexemes : List ℕ → Expr → List Lexeme
 condition_lexemes head condition = lexeme r.Head head ∷ parenthesized (expr_lexemes condition)
 
+abbrev pub name_in : List ℕ → Sequence → List Lexeme
+name_in text values = name text ∷ lexeme r.In (codes "in") ∷ sequence_lexemes values
+
 abbrev pub for_lexemes : Scalar → List ℕ → Sequence → List Lexeme
-for_lexemes scalar text values = lexeme r.Head (codes "for") ∷ (scalar_lexemes scalar ++ name text ∷ lexeme r.In (codes "in") ∷ sequence_lexemes values)
+for_lexemes scalar text values = lexeme r.Head (codes "for") ∷ (scalar_lexemes scalar ++ name_in text values)
 
 -- each layer of the tree, where the statements of bodies are their lines already
 abbrev pub form_step : StatementForm-F (List Line) (List Line) → List Line

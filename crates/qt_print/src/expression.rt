@@ -11,6 +11,7 @@ use qt_lexemes::page::Page;
 use qt_lexemes::role::Role;
 use qt_outside::faults::OutOfMemory;
 use qt_tree::expression::{Expr, Index, Range, Scalar};
+use qt_tree::label::Label;
 use sqlite_items::{Boxed, Items};
 
 /// An expression.
@@ -40,10 +41,7 @@ pub(crate) fn put_expr(page: &mut Page, expr: &Expr) -> Result<(), OutOfMemory>
         }
         Expr::SizeOf { name, dimension } => {
             page.put(Role::Keyword, "sizeof")?;
-            page.put(Role::Opening, "(")?;
-            page.put(Role::Name, name.text())?;
-            put_dimension(page, dimension)?;
-            page.put(Role::ClosingParenthesis, ")")
+            put_size_arguments(page, name, dimension)
         }
         Expr::Unary { operator, operand } => {
             page.put(Role::Sign, sign_text(*operator))?;
@@ -97,6 +95,22 @@ pub(crate) fn put_list(page: &mut Page, all: &[Expr]) -> Result<(), OutOfMemory>
         first = false;
     }
     Ok(())
+}
+
+/// The parts of `sizeof` in parentheses.
+#[tactic(auto, using(crate::proofs::Puts::puts_both))]
+#[cycle(expression)]
+fn put_size_arguments(
+    page: &mut Page,
+    name: &Label,
+    dimension: &Option<Boxed<Expr>>,
+) -> Result<(), OutOfMemory>
+    ensures { OnOk result (sheet_of page.new ≡ puts (sheet_of page.old) (spec.size_arguments name.now dimension.now)) }
+{
+    page.put(Role::Opening, "(")?;
+    page.put(Role::Name, name.text())?;
+    put_dimension(page, dimension)?;
+    page.put(Role::ClosingParenthesis, ")")
 }
 
 /// The second part of `sizeof`.
@@ -229,7 +243,6 @@ pub(crate) fn put_scalar(page: &mut Page, scalar: &Scalar) -> Result<(), OutOfMe
 }
 
 /// A type's keyword, and its size in brackets where it stands.
-#[tactic(auto, using(crate::proofs::Puts::puts_both))]
 #[cycle(expression)]
 fn put_sized(page: &mut Page, keyword: &str, size: &Option<Boxed<Expr>>) -> Result<(), OutOfMemory>
     ensures { OnOk result (sheet_of page.new ≡ puts (sheet_of page.old) (spec.type_lexemes keyword.now size.now)) }
@@ -237,10 +250,17 @@ fn put_sized(page: &mut Page, keyword: &str, size: &Option<Boxed<Expr>>) -> Resu
     page.put(Role::Keyword, keyword)?;
     match size {
         None => Ok(()),
-        Some(size) => {
-            page.put(Role::Opening, "[")?;
-            put_expr(page, size.get())?;
-            page.put(Role::ClosingBracket, "]")
-        }
+        Some(size) => put_in_brackets(page, size.get()),
     }
+}
+
+/// An expression in brackets.
+#[tactic(auto, using(crate::proofs::Puts::puts_both))]
+#[cycle(expression)]
+pub(crate) fn put_in_brackets(page: &mut Page, inner: &Expr) -> Result<(), OutOfMemory>
+    ensures { OnOk result (sheet_of page.new ≡ puts (sheet_of page.old) (lexemes.bracketed (spec.expr_lexemes inner.now))) }
+{
+    page.put(Role::Opening, "[")?;
+    put_expr(page, inner)?;
+    page.put(Role::ClosingBracket, "]")
 }

@@ -9,7 +9,7 @@ ghost use Rattle.qt_print.specs.Programs as spec;
 ghost use Rattle.qt_print.specs.Text.{canonical};
 ghost use Rattle.qt_lexemes.specs.Page as sheets;
 ghost use Rattle.qt_lexemes.specs.Page.{sheet_of};
-ghost use Rattle.qt_print.specs.Page.{puts, put_sentence, put_lines};
+ghost use Rattle.qt_print.specs.Page.{puts, put_sentence, put_lines, put_body};
 
 use crate::expression::{put_expr, put_scalar};
 use crate::statement::{
@@ -90,7 +90,7 @@ fn put_item(page: &mut Page, item: &Item) -> Result<(), OutOfMemory>
         Item::Output { scalar, name, .. } => put_typed(page, "output", scalar, name),
         Item::Qubit { size, name, .. } => put_qubit_item(page, size, name),
         Item::QubitRegister { name, size, .. } => put_qubit_register(page, name, size),
-        Item::Array { array } => put_array(page, array),
+        Item::Array { array } => put_array_item(page, array),
         Item::Gate { gate } => put_gate_item(page, gate),
         Item::Definition { definition } => put_definition(page, definition),
         Item::Statement { statement } => put_statement(page, "", statement),
@@ -149,20 +149,36 @@ fn put_qubit_register(page: &mut Page, name: &Label, size: &Option<Expr>) -> Res
     put_register(page, "qreg", name, size)
 }
 
-/// An array.
+/// The declaration of an array.
 #[tactic(auto, using(crate::proofs::Lines::sentence_put, crate::proofs::Puts::puts_both))]
-fn put_array(page: &mut Page, array: &ArrayItem) -> Result<(), OutOfMemory>
+fn put_array_item(page: &mut Page, array: &ArrayItem) -> Result<(), OutOfMemory>
     ensures { OnOk result (sheet_of page.new ≡ put_lines (sheet_of page.old) [] (statements.sentence (spec.array_lexemes array.now))) }
 {
     page.begin("")?;
-    page.put(Role::Keyword, "array")?;
-    page.put(Role::Opening, "[")?;
-    put_scalar(page, &array.scalar)?;
-    put_dimensions(page, array.dimensions.as_slice())?;
-    page.put(Role::ClosingBracket, "]")?;
-    page.put(Role::Name, array.name.text())?;
-    put_values(page, &array.value)?;
+    put_array(page, array)?;
     finish(page)
+}
+
+/// An array.
+#[tactic(auto, using(crate::proofs::Puts::puts_both))]
+fn put_array(page: &mut Page, array: &ArrayItem) -> Result<(), OutOfMemory>
+    ensures { OnOk result (sheet_of page.new ≡ puts (sheet_of page.old) (spec.array_lexemes array.now)) }
+{
+    page.put(Role::Keyword, "array")?;
+    put_shape(page, &array.scalar, array.dimensions.as_slice())?;
+    page.put(Role::Name, array.name.text())?;
+    put_values(page, &array.value)
+}
+
+/// The type of an array's elements and its dimensions, in brackets.
+#[tactic(auto, using(crate::proofs::Puts::puts_both))]
+fn put_shape(page: &mut Page, scalar: &Scalar, dimensions: &[Expr]) -> Result<(), OutOfMemory>
+    ensures { OnOk result (sheet_of page.new ≡ puts (sheet_of page.old) (spec.shape_lexemes scalar.now dimensions.now)) }
+{
+    page.put(Role::Opening, "[")?;
+    put_scalar(page, scalar)?;
+    put_dimensions(page, dimensions)?;
+    page.put(Role::ClosingBracket, "]")
 }
 
 /// The dimensions of an array, each behind a comma.
@@ -258,10 +274,17 @@ fn put_gate_item(page: &mut Page, gate: &GateItem) -> Result<(), OutOfMemory>
 {
     page.begin("")?;
     put_gate_head(page, gate)?;
-    open_body(page)?;
-    put_gate_statements(page, gate.body.as_slice())?;
-    close_body(page, "")?;
+    put_gate_body(page, gate.body.as_slice())?;
     page.end()
+}
+
+/// The body of a gate, up to its `}`.
+fn put_gate_body(page: &mut Page, body: &[GateStatement]) -> Result<(), OutOfMemory>
+    ensures { OnOk result (sheet_of page.new ≡ put_body (sheet_of page.old) [] (map spec.gate_statement_lines body.now)) }
+{
+    open_body(page)?;
+    put_gate_statements(page, body)?;
+    close_body(page, "")
 }
 
 /// The head of a gate.
@@ -340,15 +363,23 @@ fn put_definition_head(page: &mut Page, definition: &Definition) -> Result<(), O
 {
     page.put(Role::Keyword, "def")?;
     page.put(Role::Name, definition.name.text())?;
-    page.put(Role::Opening, "(")?;
-    put_parameters(page, definition.parameters.as_slice())?;
-    page.put(Role::ClosingParenthesis, ")")?;
+    put_all_parameters(page, definition.parameters.as_slice())?;
     put_result(page, &definition.result)
+}
+
+/// The parameters of a subroutine, in parentheses.
+#[tactic(auto, using(crate::proofs::Puts::puts_both))]
+fn put_all_parameters(page: &mut Page, parameters: &[Parameter]) -> Result<(), OutOfMemory>
+    ensures { OnOk result (sheet_of page.new ≡ puts (sheet_of page.old) (spec.all_parameters parameters.now)) }
+{
+    page.put(Role::Opening, "(")?;
+    put_parameters(page, parameters)?;
+    page.put(Role::ClosingParenthesis, ")")
 }
 
 /// Parameters with commas between.
 fn put_parameters(page: &mut Page, parameters: &[Parameter]) -> Result<(), OutOfMemory>
-    ensures { OnOk result (sheet_of page.new ≡ puts (sheet_of page.old) (lexemes.separated lexemes.comma (map spec.parameter_lexemes parameters.now))) }
+    ensures { OnOk result (sheet_of page.new ≡ puts (sheet_of page.old) (spec.listed_parameters parameters.now)) }
 {
     let mut first = true;
     for parameter in parameters {

@@ -10,8 +10,8 @@ ghost use Rattle.qt_lexemes.specs.Page.{sheet_of};
 ghost use Rattle.qt_print.specs.Page.{puts, put_sentence, put_lines};
 
 use crate::expression::{
-    put_arguments, put_brackets, put_expr, put_index, put_parenthesized, put_range, put_scalar,
-    put_set,
+    put_arguments, put_brackets, put_expr, put_in_brackets, put_index, put_parenthesized,
+    put_range, put_scalar, put_set,
 };
 use qt_lexemes::operator::compound_text;
 use qt_lexemes::page::Page;
@@ -25,17 +25,12 @@ use qt_tree::statement::{
 use sqlite_items::Items;
 
 /// A size in brackets, where it stands.
-#[tactic(auto, using(crate::proofs::Puts::puts_both))]
 pub(crate) fn put_size(page: &mut Page, size: &Option<Expr>) -> Result<(), OutOfMemory>
     ensures { OnOk result (sheet_of page.new ≡ puts (sheet_of page.old) (expressions.size_lexemes size.now)) }
 {
     match size {
         None => Ok(()),
-        Some(size) => {
-            page.put(Role::Opening, "[")?;
-            put_expr(page, size)?;
-            page.put(Role::ClosingBracket, "]")
-        }
+        Some(size) => put_in_brackets(page, size),
     }
 }
 
@@ -280,10 +275,17 @@ fn put_constant(
 {
     page.put(Role::Keyword, "const")?;
     put_scalar(page, scalar)?;
+    put_named_value(page, name, value)?;
+    finish(page)
+}
+
+/// A name, `=` and its value.
+fn put_named_value(page: &mut Page, name: &Label, value: &Expr) -> Result<(), OutOfMemory>
+    ensures { OnOk result (sheet_of page.new ≡ puts (sheet_of page.old) (spec.named_value name.now value.now)) }
+{
     page.put(Role::Name, name.text())?;
     page.put(Role::Operator, "=")?;
-    put_expr(page, value)?;
-    finish(page)
+    put_expr(page, value)
 }
 
 /// An alias.
@@ -292,10 +294,17 @@ fn put_alias(page: &mut Page, name: &Label, parts: &[Operand]) -> Result<(), Out
     ensures { OnOk result (sheet_of page.new ≡ put_sentence (sheet_of page.old) (spec.alias_lexemes name.now parts.now)) }
 {
     page.put(Role::Keyword, "let")?;
+    put_named_parts(page, name, parts)?;
+    finish(page)
+}
+
+/// A name, `=` and the parts that it stands for.
+fn put_named_parts(page: &mut Page, name: &Label, parts: &[Operand]) -> Result<(), OutOfMemory>
+    ensures { OnOk result (sheet_of page.new ≡ puts (sheet_of page.old) (spec.named_parts name.now parts.now)) }
+{
     page.put(Role::Name, name.text())?;
     page.put(Role::Operator, "=")?;
-    put_parts(page, parts)?;
-    finish(page)
+    put_parts(page, parts)
 }
 
 /// An assignment.
@@ -432,6 +441,13 @@ fn put_for_head(
 {
     page.put(Role::Head, "for")?;
     put_scalar(page, scalar)?;
+    put_name_in(page, name, values)
+}
+
+/// The name of a `for`, and what it goes over.
+fn put_name_in(page: &mut Page, name: &Label, values: &Sequence) -> Result<(), OutOfMemory>
+    ensures { OnOk result (sheet_of page.new ≡ puts (sheet_of page.old) (spec.name_in name.now values.now)) }
+{
     page.put(Role::Name, name.text())?;
     page.put(Role::In, "in")?;
     put_sequence(page, values)

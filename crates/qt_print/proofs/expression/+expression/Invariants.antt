@@ -47,8 +47,14 @@ decreases-put_part l = 4 * goal.size-put_part l + 1
 abbrev pub decreases-put_step : goal.decreases-put_step
 decreases-put_step l = 4 * goal.size-put_step l + 1
 
+abbrev pub decreases-put_in_brackets : goal.decreases-put_in_brackets
+decreases-put_in_brackets l = 4 * goal.size-put_in_brackets l + 1
+
 abbrev pub decreases-put_sized : goal.decreases-put_sized
-decreases-put_sized l = 4 * goal.size-put_sized l + 1
+decreases-put_sized l = 4 * goal.size-put_sized l + 2
+
+abbrev pub decreases-put_size_arguments : goal.decreases-put_size_arguments
+decreases-put_size_arguments l = 4 * goal.size-put_size_arguments l + 2
 
 abbrev pub decreases-put_arguments : goal.decreases-put_arguments
 decreases-put_arguments l = 4 * goal.size-put_arguments l + 2
