@@ -4,8 +4,8 @@ ghost use Rattle.qt_value.specs.declared.types.ValueType.TheVariants as kind;
 
 use crate::words::{phase_in, u8_in};
 use qt_const::angles::angle_of;
-use qt_const::constant::ConstFault;
 use qt_const::consts::Consts;
+use qt_const::fault::ConstFault;
 use qt_const::value::{const_value, exponent_value};
 use qt_expr::parse_expr::parse_expr;
 use qt_lex::lexer::lex;

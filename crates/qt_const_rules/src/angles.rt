@@ -2,16 +2,17 @@ ghost use Rattle.std.specs.Prelude.{◌≡◌, ◌≤◌, ◌<◌, ◌^◌, IsTr
 ghost use Rattle.qt_value.specs.Numbers.{residue};
 ghost use Rattle.qt_value.specs.Types.{has_size};
 ghost use Rattle.qt_value.specs.declared.types.ValueType.TheVariants as kind;
-ghost use Rattle.qt_const.specs.Constants.{angle_of, step_of};
+ghost use Rattle.qt_const_rules.specs.Angles.{angle_of, step_of};
 
-use crate::constant::{ConstFault, sized};
+use crate::constant::sized;
+use crate::fault::ConstFault;
 use qt_phase::phase::Phase;
 use qt_tree::refusal::Cause;
 use qt_value::types::ValueType;
 use qt_value::value::Value;
 
 /// The phase as an angle of that width, round the circle, where it is a whole number of the angle's steps. Const `exact` where it is none.
-#[tactic(auto, unfolding(crate::specs::Constants::angle_of))]
+#[tactic(auto, unfolding(crate::specs::Angles::angle_of))]
 pub fn angle_of(width: u8, phase: Phase) -> Result<Value, ConstFault>
     requires { IsTrue (has_size (kind.Angle width)) }
     ensures { result ≡ angle_of width phase }

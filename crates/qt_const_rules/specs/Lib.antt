@@ -1,0 +1,7 @@
+pub mod Angles
+pub mod Answers
+pub mod Builtins
+pub mod Modes
+pub mod Names
+pub mod Rests
+pub mod Sorts
