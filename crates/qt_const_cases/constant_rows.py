@@ -4,8 +4,8 @@
 Run it in this folder: `python3 constant_rows.py stdin > stdin` writes the rows, and `python3 constant_rows.py stdout > stdout` the
 answers. `src/main.rt` says what a row is.
 
-A line of the table below is a row, ` => `, and its answer: the number of entries, `TYPE WIDTH BITS` of a value, `phase UNITS`, `E8 NAME`,
-`E10`, or `E12` and its word. Rows of angles are reckoned with whole numbers of any size.
+A line of the table below is a row, ` => `, and its answer: the number of entries, `TYPE WIDTH BITS` of a value, `phase UNITS`, `type TYPE`,
+`E8 NAME`, `E10`, or `E12` and its word. Rows of angles are reckoned with whole numbers of any size.
 """
 
 import sys
@@ -197,6 +197,25 @@ exponent 1 / 2 => E12 exact
 exponent 4 / 2 => int 64 2
 exponent pi + 3/2 => E10
 exponent 3 - 1 / 2 => E12 exact
+
+cut 0 => 0
+known n value int 8 3 => 1
+type uint[n](0) => type Uint(3)
+type uint(0) => type Uint(64)
+type bool(0) => type Bool
+type bit(0) => type Bit(1)
+type angle(0) => type Angle(32)
+type angle[n * 11](0) => E12 range
+type int[m](0) => E8 m
+type int[pi](0) => E10
+known n hidden => 2
+value n => E8 n
+value n[0] => E8 n
+value sizeof(n) => E8 n
+value n() => E8 n
+type bit[n](0) => E8 n
+cut 1 => 1
+value n => int 8 3
 """
 
 HERE = "Place { file: 0, line: 3, column: 4 }"
@@ -213,6 +232,8 @@ def told(answer):
     match answer.split():
         case [entries]:
             return f"Err(E10({HERE}))" if entries == "E10" else entries
+        case ["type", kind]:
+            return f"Ok({kind})"
         case ["phase", units]:
             return f"Ok(Phase(Phase {{ units: {units} }}))"
         case ["E8", name]:

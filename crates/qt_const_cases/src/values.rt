@@ -6,7 +6,7 @@ use crate::words::{phase_in, u8_in};
 use qt_const::angles::angle_of;
 use qt_const::consts::Consts;
 use qt_const::fault::ConstFault;
-use qt_const::value::{const_value, exponent_value};
+use qt_const::value::{const_value, exponent_value, scalar_type};
 use qt_expr::parse_expr::parse_expr;
 use qt_lex::lexer::lex;
 use qt_outside::faults::OutOfMemory;
@@ -34,18 +34,7 @@ const HERE: Place = Place {
 enum Wanted {
     Value,
     Exponent,
-}
-
-fn reckoned(
-    alloc: Global,
-    wanted: Wanted,
-    expr: &Expr,
-    consts: &Consts,
-) -> Result<ConstValue, TextRefusal> {
-    match wanted {
-        Wanted::Value => const_value(alloc, expr, consts, HERE),
-        Wanted::Exponent => exponent_value(alloc, expr, consts, HERE),
-    }
+    CastType,
 }
 
 fn tell_value(
@@ -54,6 +43,36 @@ fn tell_value(
 ) -> Result<(), OutOfMemory> {
     write!(answer, "{value:?}")?;
     Ok(())
+}
+
+fn tell_cast_type(
+    alloc: Global,
+    expr: &Expr,
+    consts: &Consts,
+    answer: &mut String,
+) -> Result<(), OutOfMemory> {
+    match expr {
+        Expr::Cast { to, .. } => {
+            let kind = scalar_type(alloc, to, consts, HERE);
+            write!(answer, "{kind:?}")?;
+        }
+        _ => answer.push_str("no cast")?,
+    }
+    Ok(())
+}
+
+fn tell_wanted(
+    alloc: Global,
+    wanted: Wanted,
+    expr: &Expr,
+    consts: &Consts,
+    answer: &mut String,
+) -> Result<(), OutOfMemory> {
+    match wanted {
+        Wanted::Value => tell_value(const_value(alloc, expr, consts, HERE), answer),
+        Wanted::Exponent => tell_value(exponent_value(alloc, expr, consts, HERE), answer),
+        Wanted::CastType => tell_cast_type(alloc, expr, consts, answer),
+    }
 }
 
 /// The tree is made from the text, of which each token but the end belongs to the expression.
@@ -72,7 +91,7 @@ fn tell_expression(
     };
     match parse_expr(alloc, text, &tokens, 0, 0) {
         Ok((expr, end)) if end.saturating_add(1) == tokens.len() => {
-            tell_value(reckoned(alloc, wanted, &expr, consts), answer)
+            tell_wanted(alloc, wanted, &expr, consts, answer)
         }
         Ok(_) => Ok(answer.push_str("more than an expression")?),
         Err(refusal) => Ok(write!(answer, "{refusal:?}")?),
@@ -97,6 +116,16 @@ pub fn exponent(
     answer: &mut String,
 ) -> Result<(), OutOfMemory> {
     tell_expression(alloc, Wanted::Exponent, text, consts, answer)
+}
+
+/// `type CAST`
+pub fn type_of_cast(
+    alloc: Global,
+    text: &str,
+    consts: &Consts,
+    answer: &mut String,
+) -> Result<(), OutOfMemory> {
+    tell_expression(alloc, Wanted::CastType, text, consts, answer)
 }
 
 /// A width of an angle.
