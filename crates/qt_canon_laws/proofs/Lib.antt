@@ -1,0 +1,13 @@
+pub mod Lists
+pub mod FirstEntries
+pub mod Smooth
+pub mod Epsilons
+pub mod Order
+pub mod Window
+pub mod Greatest
+pub mod Cores
+pub mod Forms
+pub mod Scale
+pub mod Deciding
+pub mod Twos
+pub mod Existence

@@ -1,0 +1,4 @@
+pub mod Powers
+pub mod FirstEntry
+pub mod Canonical
+pub mod Laws
