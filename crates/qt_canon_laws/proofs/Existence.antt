@@ -90,10 +90,7 @@ up (suc m) x some s h = up_by x some h (three_ways (pos 0 -ℤ norm_a x) (pos 2 
     let f = rises (norm_a x) (norm_b x) (norm_a y) (norm_b y) (norm-epsilon x).0 (norm-epsilon x).1 (norm_a-nonneg y) l m s in
     up m y (times_not_nil epsilon x epsilon_not_nil some) f.0 f.1)
 
-edge_not_above : (a b : ℤ) → pos 0 ≤ℤ a → pos 0 -ℤ a ≡ pos 2 *ℤ b → (pos 2 *ℤ b) ≤ℤ a
-edge_not_above a b h e = omega (arith, ints)
-
-below_not_above : (a b : ℤ) → pos 0 ≤ℤ a → (pos 2 *ℤ b) <ℤ (pos 0 -ℤ a) → (pos 2 *ℤ b) ≤ℤ a
+pub below_not_above : (a b : ℤ) → pos 0 ≤ℤ a → (pos 2 *ℤ b) ≤ℤ (pos 0 -ℤ a) → (pos 2 *ℤ b) ≤ℤ a
 below_not_above a b h l = omega (arith, ints)
 
 epsilon_power-neg_neg : (n : ℕ) → epsilon_power (neg_ℤ (neg_ℤ (pos n))) ≡ power epsilon n
@@ -113,8 +110,8 @@ unit_up x some h =
 
 unit_by : (x : Omega) → (x ≡ nil → ⊥) → Ways (pos 0 -ℤ norm_a x) (pos 2 *ℤ norm_b x) → (m : ℤ) × InWindow (times (epsilon_power (neg_ℤ m)) x)
 unit_by x some (inl l) = unit_down x some l
-unit_by x some (inr (inl e)) = unit_up x some (edge_not_above (norm_a x) (norm_b x) (norm_a-nonneg x) e)
-unit_by x some (inr (inr l)) = unit_up x some (below_not_above (norm_a x) (norm_b x) (norm_a-nonneg x) l)
+unit_by x some (inr (inl e)) = unit_up x some (below_not_above (norm_a x) (norm_b x) (norm_a-nonneg x) (omega (arith, ints)))
+unit_by x some (inr (inr l)) = unit_up x some (below_not_above (norm_a x) (norm_b x) (norm_a-nonneg x) (omega (arith, ints)))
 
 takes_units : (v : List Omega) → (first_entry v ≡ nil → ⊥) → (m : ℤ) × ((w : List Omega) × TakesUnits m v w)
 takes_units v some =
