@@ -1,0 +1,3 @@
+pub mod EvenDivisors
+pub mod Divisors
+pub mod Plans
