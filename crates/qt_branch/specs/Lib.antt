@@ -1,0 +1,3 @@
+pub mod Amplitudes
+pub mod Laws
+pub mod Parts
