@@ -1,0 +1,4 @@
+pub mod Doubling
+pub mod Projected
+pub mod Swapped
+pub mod Totals
