@@ -17,6 +17,7 @@ pub fn turn(state: &mut Vector, prim: &FixedPrim) -> Result<(), NumberFault>
     ensures ok { OnOk result (IsReduced (product_of prim.now state.old) state.new) }
     ensures fault { OnErr result ((t : State) → IsReduced (product_of prim.now state.old) t → ¬ IsBounded t) }
     ensures unchanged { OnErr result (state.new ≡ state.old) }
+    ensures qubits { state.new.qubits ≡ state.old.qubits }
     ensures vector { IsVector state.new }
 {
     match *prim {
@@ -47,6 +48,7 @@ fn apply_u(state: &mut Vector, gate: ControlledU) -> Result<(), NumberFault>
     ensures ok { OnOk result (IsReduced (product_of (u_prim gate) state.old) state.new) }
     ensures fault { OnErr result ((t : State) → IsReduced (product_of (u_prim gate) state.old) t → ¬ IsBounded t) }
     ensures unchanged { OnErr result (state.new ≡ state.old) }
+    ensures qubits { state.new.qubits ≡ state.old.qubits }
     ensures vector { IsVector state.new }
 {
     let qubits = state.qubits;
@@ -58,6 +60,7 @@ fn apply_u(state: &mut Vector, gate: ControlledU) -> Result<(), NumberFault>
 fn apply_phase(state: &mut Vector, controls: Controls, angle: u8)
     requires { IsPrim state.old.qubits (phase_prim controls angle) }
     ensures reduced { IsReduced (product_of (phase_prim controls angle) state.old) state.new }
+    ensures qubits { state.new.qubits ≡ state.old.qubits }
     ensures vector { IsVector state.new }
 {
     controls.add_phase(state.entries.as_mut_slice(), angle);
