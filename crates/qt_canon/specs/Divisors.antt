@@ -12,7 +12,7 @@ use Rattle.qt_canon.specs.EvenDivisors.{even_divisor}
 abbrev pub divisor_of : Divisor → Omega
 divisor_of d = times (even_divisor d.twos d.has_root_two) (once one_minus_omega d.has_one_minus_omega)
 
--- it divides all entries, no greater power of 2 does, and what it lacks of √2 and 1 − ω doesn't divide what its steps before leave
+-- it divides all entries, no greater power of 2 does, and where it lacks √2 or 1 − ω, that doesn't divide what the steps before leave
 pub record IsGreatestDivisor (d : Divisor) (v : List Omega) : Type 0 where
   pub whole : DividesAll (divisor_of d) v
   pub twos : (k : ℕ) → DividesAll (two_to k) v → k ≤ d.twos

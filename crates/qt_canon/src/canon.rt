@@ -1,6 +1,7 @@
 //! The canonical form of a list, in place: all results are tested before any is written.
 ghost use Rattle.std.specs.Prelude.{◌≡◌, ◌^◌, ◌≤◌, ◌↔◌, IsTrue, false, List, All, IfOk, OnErr};
 ghost use Rattle.std.specs.Int.RustNames.{unsigned_abs};
+ghost use Rattle.qt_ring.specs.declared.TheConstants.{LARGEST};
 ghost use Rattle.qt_ring.specs.declared.omega.Omega.{Omega};
 ghost use Rattle.qt_ring.specs.Multiples.{scaled, DividesAll};
 ghost use Rattle.qt_ring.specs.Ring.{Within};
@@ -10,7 +11,6 @@ ghost use Rattle.qt_canon.specs.Divisors.{divisor_of};
 ghost use Rattle.qt_canon.specs.Plans.{taken_of, LeavesSmall};
 
 use crate::plan::{Plan, is_small, narrowed};
-use qt_ring::LARGEST;
 use qt_ring::omega::Omega;
 use qt_root2::scale::{NumberFault, Scale};
 

@@ -35,7 +35,7 @@ impl Divisor {
         }
     }
 
-    /// How often 2 divides the squared size of the divisor.
+    /// The exponent of 2 in the divisor's squared size, which is `2^norm_twos · (2 − √2)^norm_primes`.
     pub fn norm_twos(self) -> i32
         ensures value { result ≡ pos (self.twos + self.twos + digit self.has_root_two) }
         ensures size { unsigned_abs result ≤ 109 }
@@ -44,7 +44,7 @@ impl Divisor {
         if self.has_root_two { twice + 1 } else { twice }
     }
 
-    /// How often 2 − √2, the squared size of 1 − ω, divides that of the divisor.
+    /// The exponent of `2 − √2`, the squared size of 1 − ω, in the divisor's.
     pub fn norm_primes(self) -> u8
         ensures { result ≡ digit self.has_one_minus_omega }
     {
@@ -109,7 +109,7 @@ fn over_one_minus_omega(x: Omega) -> Omega
 }
 
 /// Whether √2 divides the number.
-pub fn has_root_two(x: Omega) -> bool
+pub fn root_two_divides(x: Omega) -> bool
     requires { Within (2 ^ 54) x }
     ensures { IsTrue result ↔ Divides root_two x }
 {
@@ -117,7 +117,7 @@ pub fn has_root_two(x: Omega) -> bool
 }
 
 /// Whether 1 − ω divides the number.
-pub fn has_one_minus_omega(x: Omega) -> bool
+pub fn one_minus_omega_divides(x: Omega) -> bool
     requires { Within (2 ^ 54) x }
     ensures { IsTrue result ↔ Divides one_minus_omega x }
 {

@@ -8,7 +8,9 @@ ghost use Rattle.qt_canon_laws.specs.FirstEntry.{first_entry};
 ghost use Rattle.qt_canon.specs.Divisors.{IsGreatestDivisor};
 ghost use Rattle.qt_canon.specs.EvenDivisors.{even_divisor};
 
-use crate::divisor::{Divisor, even_quotient, has_one_minus_omega, has_root_two, over_twos};
+use crate::divisor::{
+    Divisor, even_quotient, one_minus_omega_divides, over_twos, root_two_divides,
+};
 use qt_ring::omega::Omega;
 
 const ZERO: Omega = Omega {
@@ -25,8 +27,8 @@ pub fn greatest_divisor(entries: &[Omega]) -> Divisor
     ensures { IsGreatestDivisor result entries.now }
 {
     let twos = greatest_twos(entries);
-    let has_root_two = has_all_root_two(entries, twos);
-    let has_one_minus_omega = has_all_one_minus_omega(entries, twos, has_root_two);
+    let has_root_two = root_two_divides_all(entries, twos);
+    let has_one_minus_omega = one_minus_omega_divides_all(entries, twos, has_root_two);
     Divisor {
         twos,
         has_root_two,
@@ -65,29 +67,29 @@ fn bits_of(x: Omega) -> u64
 }
 
 /// Whether √2 divides all entries over `2^twos`.
-fn has_all_root_two(entries: &[Omega], twos: u32) -> bool
+fn root_two_divides_all(entries: &[Omega], twos: u32) -> bool
     requires within { All (Within (2 ^ 54)) entries.now }
     requires few { twos ≤ 54 }
     requires whole { DividesAll (two_to twos) entries.now }
     ensures { IsTrue result ↔ DividesAll (times (two_to twos) root_two) entries.now }
 {
     for entry in entries {
-        if !has_root_two(over_twos(*entry, twos)) {
+        if !root_two_divides(over_twos(*entry, twos)) {
             return false;
         }
     }
     true
 }
 
-/// Whether 1 − ω divides all entries over `2^twos`, and over √2 if that divides them.
-fn has_all_one_minus_omega(entries: &[Omega], twos: u32, has_root_two: bool) -> bool
+/// Whether 1 − ω divides all entries over `2^twos`, and over √2 if `has_root_two`.
+fn one_minus_omega_divides_all(entries: &[Omega], twos: u32, has_root_two: bool) -> bool
     requires within { All (Within (2 ^ 54)) entries.now }
     requires few { twos ≤ 54 }
     requires whole { DividesAll (even_divisor twos has_root_two) entries.now }
     ensures { IsTrue result ↔ DividesAll (times (even_divisor twos has_root_two) one_minus_omega) entries.now }
 {
     for entry in entries {
-        if !has_one_minus_omega(even_quotient(*entry, twos, has_root_two)) {
+        if !one_minus_omega_divides(even_quotient(*entry, twos, has_root_two)) {
             return false;
         }
     }

@@ -1,11 +1,15 @@
--- Numbers compared, and the lexicographic order of coefficients.
-use Rattle.std.proofs.Common.{◌≡◌, ℕ, zero, suc, ◌<◌, refl, sym, ap, ◌∙◌, arith, ℤ, pos, negsuc}
+-- Tests and numbers compared, and the lexicographic order of coefficients.
+use Rattle.std.proofs.Common.{◌≡◌, ℕ, zero, suc, Bool, true, false, ◌<◌, refl, sym, ap, ◌∙◌, arith, ℤ, pos, negsuc}
 use Rattle.std.specs.Prelude.{◌⊎◌, ◌<ℤ◌, ◌≤ℤ◌}
 use mathlib.Core.Logic.{inl, inr}
 use Rattle.std.proofs.lemmas.Int.{ints}
 use Rattle.qt_ring.specs.declared.omega.Omega.{Omega}
 use Rattle.qt_ring.proofs.RingLaws.{same}
 use Rattle.qt_canon_laws.specs.FirstEntry.{GreaterOr, IsGreater}
+
+-- a test doesn't fail and hold
+pub not_both : (b : Bool) → b ≡ false → b ≡ true → ⊥
+not_both b e f = absurd (cc)
 
 pub nat_three_ways : (m n : ℕ) → (m < n) ⊎ ((m ≡ n) ⊎ (n < m))
 nat_three_ways zero zero = inr (inl refl)

@@ -1,13 +1,11 @@
-use Rattle.std.proofs.Common.{◌≡◌, Bool, true, false, refl, arith}
+use Rattle.std.proofs.Common.{refl, arith}
 use Rattle.qt_ring.specs.Ring.{nil}
+use Rattle.qt_canon_laws.proofs.Order.{not_both}
 use Rattle.qt_canon.specs.Divisors.{divisor_of}
 use Rattle.qt_canon.specs.Plans.{taken_of}
 use Rattle.qt_canon.proofs.Entries.{divides_at}
 use Rattle.qt_canon.proofs.Results.{leaves_none, leaves_more, leaves_all, leaves_each}
 use Rattle.qt_canon.proofs.canon.leaves_small.Goals as goal
-
-both_ways : (b : Bool) → b ≡ false → b ≡ true → ⊥
-both_ways b e f = absurd (cc)
 
 pub loop-entry-init : goal.loop-entry-init
 loop-entry-init c = leaves_none (taken_of c.args.plan)
@@ -19,7 +17,7 @@ pub returns-then-not-is_small : goal.returns-then-not-is_small
 unfolding nil
 returns-then-not-is_small c = (
   (λ t. absurd (cc)),
-  (λ h. absurd (both_ways c.is_small.result c.if-not-is_small.true (c.is_small.ensures.1 (leaves_each (taken_of c.args.plan) c.args.entries.now c.loop-entry.entry-index _ c.loop-entry-test.true c.quotient.ensures h)))),
+  (λ h. absurd (not_both c.is_small.result c.if-not-is_small.true (c.is_small.ensures.1 (leaves_each (taken_of c.args.plan) c.args.entries.now c.loop-entry.entry-index _ c.loop-entry-test.true c.quotient.ensures h)))),
 )
 
 pub loop-entry-preserved : goal.loop-entry-preserved
