@@ -1,0 +1,11 @@
+pub mod Values
+pub mod Expressions
+pub mod Places
+pub mod Points
+pub mod Measuring
+pub mod Applying
+pub mod Loops
+pub mod Statements
+pub mod Distribution
+pub mod WellFormed
+pub mod Laws

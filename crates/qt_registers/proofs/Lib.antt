@@ -1,0 +1,4 @@
+pub mod Numbers
+pub mod Progressions
+pub mod Runs
+pub mod Stepping
