@@ -25,6 +25,7 @@ impl Model for Scope {
 
 impl Scope {
     /// A scope without a name.
+    #[tactic(auto, unfolding(crate::specs::Entries::entries_of))]
     pub fn new(alloc: Global) -> Scope
         ensures { result ≡ [] }
     {

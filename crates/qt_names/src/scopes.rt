@@ -33,7 +33,7 @@ impl Model for Scopes {
 fn last_found<'a>(mut scopes: &'a [Scope], name: &str) -> Option<&'a Named>
     ensures { option_copied result ≡ found (reverse scopes.entry.now) name.now }
 {
-    while let [outer @ .., scope] = scopes {
+    while let Some((scope, outer)) = scopes.split_last() {
         let named = scope.get(name);
         if named.is_some() {
             return named;

@@ -49,10 +49,10 @@ impl Tables {
     {
         let copy = what.copied(self.alloc)?;
         self.outside.declare(name, copy, place)?;
-        let done = self.inside.declare(name, what, place);
-        if done.is_err() {
+        if let Err(refusal) = self.inside.declare(name, what, place) {
             self.outside.take_back();
+            return Err(refusal);
         }
-        done
+        Ok(())
     }
 }
