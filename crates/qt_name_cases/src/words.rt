@@ -4,6 +4,7 @@ use qt_tree::place::Place;
 use std::str::SplitWhitespace;
 
 /// The words that are still to be read.
+#[derive(Drop)]
 pub struct Words<'a> {
     words: SplitWhitespace<'a>,
     fails: bool,
