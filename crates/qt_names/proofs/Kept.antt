@@ -1,5 +1,5 @@
 -- What a scope keeps, in the words of a map.
-use Rattle.std.proofs.Common.{◌≡◌, ℕ, suc, ◌-◌, ◌<◌, ◌↔◌, cond, Option, Some, None, IsSome, List, [], ◌∷◌, ◌++◌, length, map, take, nat_eq, string_bytes, refl, sym, ap, ◌∙◌, arith, append-nil, length-append, true≢false}
+use Rattle.std.proofs.Common.{◌≡◌, ◌-◌, ◌<◌, cond, Option, Some, None, IsSome, List, [], ◌∷◌, ◌++◌, length, take, nat_eq, string_bytes, refl, sym, ap, ◌∙◌, arith, append-nil, length-append, true≢false}
 use Rattle.std.specs.declared.string.String.{String}
 use Rattle.std.specs.Cmp.Lexicographic.{pointwise}
 use Rattle.std.specs.Map.{lookup}
