@@ -1,4 +1,6 @@
+pub mod Meeting
 pub mod Numbers
+pub mod Overlaps
 pub mod Progressions
 pub mod Runs
 pub mod Stepping

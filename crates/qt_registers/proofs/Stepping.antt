@@ -10,7 +10,7 @@ use Rattle.qt_registers.proofs.Runs.{get_here, get_later, length-run_qubits, ste
 abbrev pub behind : {X : Type 0} → List X → List X
 behind xs = take (length xs - 1) (drop 1 xs)
 
-first_and_behind : {X : Type 0} (xs : List X) (x : X) → 1 ≤ length xs → x ≡ get_or xs 0 x → xs ≡ x ∷ behind xs
+pub first_and_behind : {X : Type 0} (xs : List X) (x : X) → 1 ≤ length xs → x ≡ get_or xs 0 x → xs ≡ x ∷ behind xs
 first_and_behind [] x some is = absurd (omega arith)
 first_and_behind (y ∷ ys) x some is = ap₂ ◌∷◌ (sym is) (sym (take_all (suc (length ys) - 1) ys (omega arith)))
 

@@ -1,6 +1,6 @@
 -- Registers of qubits: OpenQASM 3.0 live specification, "Quantum types" and "Register concatenation and slicing"; Cross et al. 2022.
 -- A register is the list of its qubits, in order. A part of it is the list of the qubits at every so many places.
-use Rattle.std.specs.Prelude.{ℕ, zero, suc, ◌+◌, List, [], ◌∷◌, map, slice_get}
+use Rattle.std.specs.Prelude.{◌≡◌, ℕ, zero, suc, ◌+◌, List, [], ◌∷◌, map, slice_get, Some}
 use Rattle.std.specs.List.{filter_map}
 use Rattle.qt_registers.specs.declared.fixed.FixedQubit.{FixedQubit}
 use Rattle.qt_registers.specs.declared.fixed.FixedQubit.TheVariants as fixed
@@ -21,3 +21,11 @@ parameter_qubits parameter size = map (fixed.OfParameter parameter) (progression
 -- the qubits at the places start, start + step, .., so many
 unfoldable pub stepped : List FixedQubit → ℕ → ℕ → ℕ → List FixedQubit
 stepped qubits start step count = filter_map (slice_get qubits) (progression start step count)
+
+-- the qubit stands at some place of the register
+abbrev pub Holds : List FixedQubit → FixedQubit → Type 0
+Holds qubits qubit = (place : ℕ) × (slice_get qubits place ≡ Some qubit)
+
+-- some qubit stands in both registers
+abbrev pub Overlap : List FixedQubit → List FixedQubit → Type 0
+Overlap left right = (qubit : FixedQubit) × Holds left qubit × Holds right qubit

@@ -1,5 +1,5 @@
-ghost use Rattle.std.specs.Prelude.{◌≡◌, ◌+◌, ◌-◌, ◌*◌, ◌^◌, ◌<◌, ◌≤◌, [], ◌++◌, length, slice_get, IfOk, OnOk, OnErr};
-ghost use Rattle.qt_registers.specs.Registers.{parameter_qubits, program_qubits, stepped};
+ghost use Rattle.std.specs.Prelude.{◌≡◌, ◌+◌, ◌-◌, ◌*◌, ◌^◌, ◌<◌, ◌≤◌, ◌↔◌, [], ◌++◌, length, slice_get, IsTrue, IfOk, OnOk, OnErr};
+ghost use Rattle.qt_registers.specs.Registers.{parameter_qubits, program_qubits, stepped, Overlap};
 ghost use Rattle.qt_registers.specs.Runs.{qubits_of, run_qubits};
 
 use crate::fixed::FixedQubit;
@@ -88,6 +88,32 @@ fn stepped_runs(
     Ok(found)
 }
 
+/// Whether some qubit is in a run and in some of several runs.
+fn run_overlaps(run: Run, mut others: &[Run]) -> bool
+    ensures { IsTrue result ↔ Overlap (run_qubits run) (qubits_of others.entry.now) }
+{
+    while let [other, rest @ ..] = others {
+        if run.overlaps(*other) {
+            return true;
+        }
+        others = rest;
+    }
+    false
+}
+
+/// Whether some qubit is in some of several runs and in some of others.
+fn runs_overlap(mut runs: &[Run], others: &[Run]) -> bool
+    ensures { IsTrue result ↔ Overlap (qubits_of runs.entry.now) (qubits_of others.now) }
+{
+    while let [run, rest @ ..] = runs {
+        if run_overlaps(*run, others) {
+            return true;
+        }
+        runs = rest;
+    }
+    false
+}
+
 impl Register {
     /// A register without qubits.
     #[tactic(auto, unfolding(crate::specs::Runs::qubits_of))]
@@ -164,6 +190,13 @@ impl Register {
         ensures { result ≡ slice_get self.now place }
     {
         qubit_at(self.runs.as_slice(), place)
+    }
+
+    /// Whether some qubit stands in both registers.
+    pub fn overlaps(&self, other: &Register) -> bool
+        ensures { IsTrue result ↔ Overlap self.now other.now }
+    {
+        runs_overlap(self.runs.as_slice(), other.runs.as_slice())
     }
 
     /// Another register of the same qubits.

@@ -1,15 +1,24 @@
-ghost use Rattle.std.specs.Prelude.{◌≡◌, ◌+◌, ◌-◌, ◌*◌, ◌<◌, ◌≤◌, slice_get, Some};
+ghost use Rattle.std.specs.Prelude.{◌≡◌, ◌+◌, ◌-◌, ◌*◌, ◌<◌, ◌≤◌, ◌↔◌, IsTrue, slice_get, Some};
 ghost use Rattle.qt_registers.specs.Origins.{bound_of, qubit_of};
 
 use crate::fixed::FixedQubit;
 
 /// Where the qubits of a run are counted.
-#[derive(Clone, Copy, Debug)]
+#[derive(Clone, Copy, Debug, PartialEq, Eq)]
 pub enum Origin {
     /// Among the qubits of the program.
     Program,
     /// Among the places of a subroutine's parameter.
     Parameter { parameter: u32 },
+}
+
+impl Origin {
+    /// Whether two origins are the same.
+    fn is(self, other: Origin) -> bool
+        ensures { IsTrue result ↔ (self ≡ other) }
+    {
+        self == other
+    }
 }
 
 /// The qubits with the numbers `first`, `first + step`, .. of one origin, so many.
@@ -39,8 +48,8 @@ fn qubit_of(origin: Origin, number: u64) -> FixedQubit
 }
 
 impl Run {
-    ghost use Rattle.qt_registers.specs.Registers.{stepped};
-    ghost use Rattle.qt_registers.specs.Runs.{run_qubits};
+    ghost use Rattle.qt_registers.specs.Registers.{stepped, Overlap};
+    ghost use Rattle.qt_registers.specs.Runs.{run_qubits, HasNumber, Meet};
 
     /// The number of the qubit at a place.
     #[tactic(auto, using(crate::proofs::Numbers::number_within))]
@@ -87,6 +96,59 @@ impl Run {
             first: self.number(start),
             step: self.step.saturating_mul(step),
             count,
+        }
+    }
+
+    /// Whether a qubit of the run has the number.
+    fn has_number(self, number: u64) -> bool
+        ensures { IsTrue result ↔ HasNumber self number }
+    {
+        if number < self.first {
+            return false;
+        }
+        let way = number - self.first;
+        way % self.step == 0 && way / self.step < self.count
+    }
+
+    /// How many numbers of the run, if it went on, are below a bound.
+    fn count_below(self, bound: u64) -> u64
+        ensures before { 0 < result → self.first + (result - 1) * self.step < bound }
+        ensures behind { bound ≤ self.first + result * self.step }
+    {
+        if bound <= self.first {
+            return 0;
+        }
+        (bound - self.first - 1) / self.step + 1
+    }
+
+    /// Whether some number is in both runs. The rests of the other run's numbers by this one's step come again after so many numbers as the
+    /// step says, so no more of them are tried.
+    fn meets(self, other: Run) -> bool
+        ensures { IsTrue result ↔ Meet self other }
+    {
+        let first = other.count_below(self.first);
+        let end = other.count.min(first.saturating_add(self.step));
+        let mut place = first;
+        while place < end {
+            if self.has_number(other.number(place)) {
+                return true;
+            }
+            place += 1;
+        }
+        false
+    }
+
+    /// Whether some qubit is in both runs. That of the smaller step is asked for the numbers of the other, which are fewer.
+    pub fn overlaps(self, other: Run) -> bool
+        ensures { IsTrue result ↔ Overlap (run_qubits self) (run_qubits other) }
+    {
+        if !self.origin.is(other.origin) {
+            return false;
+        }
+        if self.step <= other.step {
+            self.meets(other)
+        } else {
+            other.meets(self)
         }
     }
 }
