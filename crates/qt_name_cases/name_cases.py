@@ -6,6 +6,7 @@ Run it in this folder: `python3 name_cases.py stdin > stdin` writes the rows, an
 place from its parts, whose qubits are never listed. The rows of names are written by hand and by chance with a fixed beginning.
 """
 
+import math
 import random
 import sys
 
@@ -228,7 +229,6 @@ NO_ROWS = [
     "register program 1",
     "register qubit 1 2",
     "at x; program 0 1",
-    "stepped 0 1; program 0 1",
     "other",
     "",
 ]
@@ -255,6 +255,53 @@ def qubit_at(parts, place):
     return None
 
 
+def runs_in(written):
+    """The runs of a register as (origin, range of numbers), from places one step apart in its parts; None where it has no such places."""
+    numbers, _, parts = written.partition(";")
+    if len(numbers.split()) != 3 or not parts:
+        return None
+    start, step, count = map(int, numbers.split())
+    parts = parts_in(parts)
+    if step == 0 or (count > 0 and start + (count - 1) * step >= sum(part[2] for part in parts)):
+        return None
+    places = range(start, start + count * step, step)
+    runs, behind = [], 0
+    for origin, number, size in parts:
+        first = next_at_least(places, behind)
+        end = min(places.stop, behind + size)
+        way = (number if origin == "program" else 0) - behind
+        runs.append(((origin, None if origin == "program" else number), range(first + way, max(first, end) + way, step)))
+        behind += size
+    return runs
+
+
+def next_at_least(places, least):
+    """The first place that isn't below a number, also behind the last one."""
+    return places.start + max(0, -(-(least - places.start) // places.step)) * places.step
+
+
+def meet(left, right):
+    """Whether two ranges have a number in common: the least common one from the larger first number on, by the remainder theorem."""
+    divisor = math.gcd(left.step, right.step)
+    if not left or not right or (right.start - left.start) % divisor:
+        return False
+    step = right.step // divisor
+    turns = (right.start - left.start) // divisor * pow(left.step // divisor, -1, step) % step if step > 1 else 0
+    common = left.start + turns * left.step
+    both = left.step * step
+    least = max(left.start, right.start)
+    common += max(0, -(-(least - common) // both)) * both
+    return common <= min(left[-1], right[-1])
+
+
+def overlap(row):
+    left, _, right = row.partition("/")
+    left, right = runs_in(left), runs_in(right)
+    if left is None or right is None:
+        return "refused"
+    return str(any(one[0] == other[0] and meet(one[1], other[1]) for one in left for other in right)).lower()
+
+
 def show(size, at):
     shown = [str(size)] + [some(at(place)) for place in range(min(size, 10))]
     if size > 10:
@@ -267,11 +314,15 @@ def answer_registers(row):
     if call in ("register", "copied"):
         parts = parts_in(rest)
         return show(sum(part[2] for part in parts), lambda place: qubit_at(parts, place))
+    if call == "overlap":
+        return overlap(rest)
     numbers, written = rest.split(";")
     parts = parts_in(written)
     size = sum(part[2] for part in parts)
     if call == "at":
         return some(qubit_at(parts, int(numbers)))
+    if len(numbers.split()) != 3:
+        return "refused"
     start, step, count = map(int, numbers.split())
     if step == 0 or (count > 0 and start + (count - 1) * step >= size):
         return "refused"
@@ -281,6 +332,11 @@ def answer_registers(row):
 def some_parts(chance):
     origins = ("program", "program", "parameter")
     return ", ".join(f"{chance.choice(origins)} {chance.randrange(20)} {chance.randrange(7)}" for _ in range(chance.randrange(1, 5)))
+
+
+def some_places(chance):
+    parts = f"program {chance.randrange(20)} 40, parameter {chance.randrange(3)} 40"
+    return f"{chance.randrange(60)} {chance.randrange(1, 10)} {chance.randrange(6)}; {parts}"
 
 
 GIANT = "program 4000000000 4294967295, parameter 3 4294967295, program 5 1"
@@ -316,6 +372,28 @@ REGISTER_ROWS = [
     "stepped 2 1 1; program 0 3",
     "stepped 3 1 1; program 0 3",
     "stepped 1 3 4; program 0 4, parameter 1 4, program 8 4",
+    "stepped 0 1; program 0 1",
+    "overlap 0 1 4; program 0 4 / 0 1 4; program 3 4",
+    "overlap 0 1 4; program 0 4 / 0 1 4; program 4 4",
+    "overlap 0 1 4; program 0 4 / 0 1 4; parameter 0 4",
+    "overlap 0 1 4; parameter 0 4 / 3 1 1; parameter 0 4",
+    "overlap 0 1 4; parameter 0 4 / 3 1 1; parameter 1 4",
+    "overlap 0 1 0; program 0 4 / 0 1 4; program 0 4",
+    "overlap 0 1 4; program 0 4 / 0 1 0; program 0 4",
+    "overlap 0 1 5; program 0 4 / 0 1 4; program 0 4",
+    "overlap 0 1 4; program 0 4 / 0 0 4; program 0 4",
+    "overlap 0 1 4; program 0 4",
+    # each second place, and every other one; each third place meets each second, from the fourth on
+    "overlap 0 2 2147483647; program 0 4294967295 / 1 2 2147483647; program 0 4294967295",
+    "overlap 1 2 2147483647; program 0 4294967295 / 0 3 1431655765; program 0 4294967295",
+    "overlap 1 2 2147483647; program 0 4294967295 / 0 3 1; program 0 4294967295",
+    # steps that have no common divisor meet late, or beyond the end
+    "overlap 0 65521 65549; program 0 4294967295 / 1 65537 65534; program 0 4294967295",
+    "overlap 0 65521 65549; program 0 4294967295 / 65536 65537 65534; program 0 4294967295",
+    "overlap 0 65521 4000; program 0 4294967295 / 65536 65537 4000; program 0 4294967295",
+    "overlap 0 1 8589934590; program 0 4294967295, parameter 0 4294967295 / 0 4294967294 2; parameter 0 4294967295",
+    "overlap 4294967295 1 4; program 0 4294967295, program 7 4 / 0 1 4; program 10 4",
+    "overlap 4294967295 1 4; program 0 4294967295, program 7 4 / 0 1 4; program 11 4",
 ]
 
 
@@ -327,6 +405,8 @@ def chance_registers():
         rows.append(f"register {parts}")
         rows.append(f"at {chance.randrange(20)}; {parts}")
         rows.append(f"stepped {chance.randrange(6)} {chance.randrange(1, 5)} {chance.randrange(6)}; {parts}")
+    for _ in range(150):
+        rows.append(f"overlap {some_places(chance)} / {some_places(chance)}")
     return rows
 
 

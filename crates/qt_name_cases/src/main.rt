@@ -18,6 +18,7 @@
 //! - `register PARTS`, `copied PARTS` and `stepped START STEP COUNT; PARTS`: the size of the register, and its qubits: all, or the first
 //!   ten and the last.
 //! - `at PLACE; PARTS`: the qubit at a place.
+//! - `overlap START STEP COUNT; PARTS / START STEP COUNT; PARTS`: whether some qubit stands in both registers.
 //!
 //! A row that breaks a condition of its call is answered with `refused`, and a line that is no row with `no row`.
 //!
@@ -56,6 +57,7 @@ fn answer_row(alloc: Global, row: &str, tables: &mut Tables, answer: &mut Answer
         "register" => registers::register(alloc, rest, answer),
         "copied" => registers::copied(alloc, rest, answer),
         "stepped" => registers::stepped(alloc, rest, answer),
+        "overlap" => registers::overlap(alloc, rest, answer),
         "at" => registers::at(alloc, rest, answer),
         _ => answer.say("no row"),
     }

@@ -122,22 +122,10 @@ impl Steps {
             None => false,
         }
     }
-
-    /// Shows the qubits of a register at these places.
-    fn show(self, alloc: Global, register: &Register, answer: &mut Answer) {
-        if !self.are_within(register.size()) {
-            return answer.say("refused");
-        }
-        match register.stepped(alloc, self.start, self.step, self.count) {
-            Ok(part) => show(&part, answer),
-            Err(_) => answer.want(),
-        }
-    }
 }
 
-/// `stepped START STEP COUNT; PARTS`
-pub fn stepped(alloc: Global, row: &str, answer: &mut Answer) {
-    let (places, written) = row.split_once(';').unwrap_or((row, ""));
+/// `START STEP COUNT`
+fn steps_in(places: &str) -> Option<Steps> {
     let mut words = Words::of(places);
     let steps = Steps {
         start: words.number(),
@@ -145,11 +133,67 @@ pub fn stepped(alloc: Global, row: &str, answer: &mut Answer) {
         count: words.number(),
     };
     if !words.are_good() {
-        return answer.say("no row");
+        return None;
     }
-    match register_in(alloc, written) {
-        Ok(Some(register)) => steps.show(alloc, &register, answer),
-        Ok(None) => answer.say("no row"),
+    Some(steps)
+}
+
+/// The qubits of a register at some places, if it has these places.
+fn part_at(
+    alloc: Global,
+    steps: Steps,
+    register: &Register,
+) -> Result<Option<Register>, OutOfMemory> {
+    if !steps.are_within(register.size()) {
+        return Ok(None);
+    }
+    let part = register.stepped(alloc, steps.start, steps.step, steps.count)?;
+    Ok(Some(part))
+}
+
+/// `START STEP COUNT; PARTS`. None where it has no form, or where a place isn't in the register.
+fn stepped_in(alloc: Global, written: &str) -> Result<Option<Register>, OutOfMemory> {
+    let (places, parts) = written.split_once(';').unwrap_or((written, ""));
+    let Some(steps) = steps_in(places) else {
+        return Ok(None);
+    };
+    match register_in(alloc, parts)? {
+        Some(register) => part_at(alloc, steps, &register),
+        None => Ok(None),
+    }
+}
+
+/// `stepped START STEP COUNT; PARTS`
+pub fn stepped(alloc: Global, written: &str, answer: &mut Answer) {
+    match stepped_in(alloc, written) {
+        Ok(Some(part)) => show(&part, answer),
+        Ok(None) => answer.say("refused"),
+        Err(_) => answer.want(),
+    }
+}
+
+/// Whether a register shares a qubit with one that a row writes.
+fn overlaps(alloc: Global, left: &Register, right: &str) -> Result<Option<bool>, OutOfMemory> {
+    match stepped_in(alloc, right)? {
+        Some(right) => Ok(Some(left.overlaps(&right))),
+        None => Ok(None),
+    }
+}
+
+/// `START STEP COUNT; PARTS / START STEP COUNT; PARTS`
+fn overlap_in(alloc: Global, row: &str) -> Result<Option<bool>, OutOfMemory> {
+    let (left, right) = row.split_once('/').unwrap_or((row, ""));
+    match stepped_in(alloc, left)? {
+        Some(left) => overlaps(alloc, &left, right),
+        None => Ok(None),
+    }
+}
+
+/// `overlap START STEP COUNT; PARTS / START STEP COUNT; PARTS`
+pub fn overlap(alloc: Global, row: &str, answer: &mut Answer) {
+    match overlap_in(alloc, row) {
+        Ok(Some(shared)) => answer.show(&shared),
+        Ok(None) => answer.say("refused"),
         Err(_) => answer.want(),
     }
 }
