@@ -1,5 +1,5 @@
 use Rattle.qt_registers.specs.Registers.{Overlap}
-use Rattle.qt_registers.specs.Runs.{qubits_of, run_qubits}
+use Rattle.qt_registers.specs.Runs.{run_qubits}
 use Rattle.qt_registers.proofs.Meeting.{denied, no_where, yes_where}
 use Rattle.qt_registers.proofs.Overlaps.{overlaps_behind, overlaps_first, overlaps_later, overlaps_none}
 use Rattle.qt_registers.proofs.register.run_overlaps.Goals as goal
