@@ -8,7 +8,8 @@ use Rattle.std.proofs.Math.Seq.{take-append_seam}
 use Rattle.std.proofs.lemmas.List.{map-append}
 use Rattle.qt_names.specs.declared.named.Named.{Named}
 use Rattle.qt_names.specs.Entries.{Entry, Name, entries_of, entry_of}
-use Rattle.qt_names.specs.Scopes.{found_in, without_last}
+use Rattle.qt_names.specs.Scopes.{found_in}
+use Rattle.qt_names.specs.Undoing.{without_last}
 
 pub without_last-push : (scope : List Entry) (entry : Entry) → without_last (scope ++ entry ∷ []) ≡ scope
 without_last-push scope entry =

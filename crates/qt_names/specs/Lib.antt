@@ -2,3 +2,4 @@ pub mod Entries
 pub mod Scopes
 pub mod Seen
 pub mod Tables
+pub mod Undoing

@@ -1,6 +1,6 @@
 -- Scopes of names: OpenQASM 3.0 live specification, "Scoping of variables"; Cross et al. 2022.
 -- The scopes that are open are a list with the innermost first. A scope is the list of its entries, and no name is declared twice in it.
-use Rattle.std.specs.Prelude.{◌≡◌, ◌≢◌, ◌-◌, nat_eq, Bool, false, List, [], ◌∷◌, ◌++◌, length, take, Option, Some, None, is_some, Result, Ok, Err, if◌then◌else◌}
+use Rattle.std.specs.Prelude.{◌≡◌, ◌≢◌, nat_eq, Bool, false, List, [], ◌∷◌, ◌++◌, Option, Some, None, is_some, Result, Ok, Err, if◌then◌else◌}
 use Rattle.std.specs.Option.{option_or}
 use Rattle.std.specs.Cmp.Lexicographic.{pointwise}
 use denote.Ref.{Bor}
@@ -37,14 +37,6 @@ declares (scope ∷ outer) name = is_some (found_in scope name)
 abbrev pub declared : List (List Entry) → Name → Named → List (List Entry)
 declared [] name named = []
 declared (scope ∷ outer) name named = (scope ++ (record { name = name; named = named }) ∷ []) ∷ outer
-
-abbrev pub without_last : List Entry → List Entry
-without_last scope = take (length scope - 1) scope
-
--- the innermost scope without the entry that was added last
-abbrev pub taken_back : List (List Entry) → List (List Entry)
-taken_back [] = []
-taken_back (scope ∷ outer) = without_last scope ∷ outer
 
 -- ---- what the calls answer. Want of memory is free
 

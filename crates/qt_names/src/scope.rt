@@ -1,6 +1,7 @@
 ghost use Rattle.std.specs.Prelude.{◌≡◌, [], ◌∷◌, ◌++◌, None, OnOk, OnErr};
 ghost use Rattle.std.specs.Option.{option_copied};
-ghost use Rattle.qt_names.specs.Scopes.{found_in, without_last};
+ghost use Rattle.qt_names.specs.Scopes.{found_in};
+ghost use Rattle.qt_names.specs.Undoing.{without_last};
 
 use crate::named::Named;
 use indexmap::IndexMap;

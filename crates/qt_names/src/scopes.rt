@@ -1,6 +1,7 @@
 ghost use Rattle.std.specs.Prelude.{◌≡◌, [], ◌∷◌, reverse, OnOk, OnErr};
 ghost use Rattle.std.specs.Option.{option_copied};
-ghost use Rattle.qt_names.specs.Scopes.{declares, entered, found, left, taken_back, Declares, Finds};
+ghost use Rattle.qt_names.specs.Scopes.{declares, entered, found, left, Declares, Finds};
+ghost use Rattle.qt_names.specs.Undoing.{taken_back};
 
 use crate::named::Named;
 use crate::scope::Scope;

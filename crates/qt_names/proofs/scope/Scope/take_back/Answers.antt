@@ -1,5 +1,5 @@
 use Rattle.std.proofs.Common.{◌∙◌, ap}
-use Rattle.qt_names.specs.Scopes.{without_last}
+use Rattle.qt_names.specs.Undoing.{without_last}
 use Rattle.qt_names.proofs.Kept.{entries_of-pop}
 use Rattle.qt_names.proofs.scope.Scope.take_back.Goals as goal
 
