@@ -14,43 +14,38 @@ mod phases;
 mod programs;
 mod reports;
 mod states;
-mod text;
 mod weights;
 
-use qt_outside::faults::OutOfMemory;
+use qt_rows::answer::Answer;
+use qt_rows::cases::{Cases, answer_lines};
+use qt_rows::row::Row;
 use std::alloc::Global;
-use std::io::{self, BufWriter, Write};
+use std::io;
 use std::process::ExitCode;
 
-/// The answer to a row, written behind what stands in `answer`.
-fn answer_row(alloc: Global, row: &str, answer: &mut String) -> Result<(), OutOfMemory> {
-    match row.split_once(' ') {
-        Some(("phase", call)) => phases::answer_phase(call, answer),
-        Some(("omega", call)) => omegas::answer_omega(call, answer),
-        Some(("weight", call)) => weights::answer_weight(call, answer),
-        Some(("mass", call)) => masses::answer_mass(call, answer),
-        Some(("plain", steps)) => states::answer_plain(alloc, steps, answer),
-        Some(("fraction", numbers)) => reports::answer_fraction(alloc, numbers, answer),
-        Some(("sure", output)) => reports::answer_sure(alloc, output, answer),
-        Some(("either", chances)) => reports::answer_either(alloc, chances, answer),
-        Some(("read", text)) => programs::answer_read(alloc, text, answer),
-        Some(("run", text)) => programs::answer_run(alloc, text, answer),
-        Some(("report", text)) => programs::answer_report(alloc, text, answer),
-        _ => Ok(answer.push_str("no row")?),
+/// What answers the rows.
+#[derive(Drop)]
+struct NumberCases;
+
+impl Cases for NumberCases {
+    fn answer(&mut self, alloc: Global, row: &mut Row<'_>, answer: &mut Answer) {
+        match row.word() {
+            "phase" => phases::answer_phase(row, answer),
+            "omega" => omegas::answer_omega(row, answer),
+            "weight" => weights::answer_weight(row, answer),
+            "mass" => masses::answer_mass(row, answer),
+            "plain" => states::answer_plain(alloc, row, answer),
+            "fraction" => reports::answer_fraction(alloc, row, answer),
+            "sure" => reports::answer_sure(alloc, row, answer),
+            "either" => reports::answer_either(alloc, row, answer),
+            "read" => programs::answer_read(alloc, row.rest, answer),
+            "run" => programs::answer_run(alloc, row.rest, answer),
+            "report" => programs::answer_report(alloc, row.rest, answer),
+            _ => row.refuse(),
+        }
     }
 }
 
 fn main(rt: HostRuntime) -> io::Result<ExitCode> {
-    let alloc = rt.alloc();
-    let rows = io::read_to_string(alloc, rt.reader())?;
-    let mut out = BufWriter::new(alloc, io::writer(&rt))?;
-    for row in rows.lines() {
-        let mut answer = String::new(alloc);
-        if answer_row(alloc, row, &mut answer).is_err() {
-            return Ok(ExitCode::FAILURE);
-        }
-        writeln!(out, "{answer}")?;
-    }
-    out.flush()?;
-    Ok(ExitCode::SUCCESS)
+    answer_lines(rt.alloc(), &mut NumberCases, rt.reader(), io::writer(&rt))
 }

@@ -1,8 +1,8 @@
 //! Rows of masses, by name: numbers in a row carry no proof of what a mass must be.
 
-use qt_outside::faults::OutOfMemory;
-use qt_root2::mass::{Mass, Reduced};
-use std::str::SplitWhitespace;
+use qt_root2::mass::Mass;
+use qt_rows::answer::Answer;
+use qt_rows::row::Row;
 
 const LEAST: Mass = Mass { a: 1, b: 0 };
 
@@ -14,48 +14,40 @@ const LIKELY: Mass = Mass {
 
 const TWO: Mass = Mass { a: 1 << 97, b: 0 };
 
-/// What a call answers.
-#[derive(Clone, Copy, Debug)]
-struct Answer {
-    reduced: Reduced,
-    is_zero: bool,
-}
-
-fn mass_in(words: &mut SplitWhitespace) -> Option<Mass> {
-    match words.next()? {
-        "zero" => Some(Mass::zero()),
-        "least" => Some(LEAST),
-        "likely" => Some(LIKELY),
-        "two" => Some(TWO),
-        _ => None,
+fn mass_in(row: &mut Row<'_>) -> Mass {
+    match row.word() {
+        "zero" => Mass::zero(),
+        "least" => LEAST,
+        "likely" => LIKELY,
+        "two" => TWO,
+        _ => {
+            row.refuse();
+            Mass::zero()
+        }
     }
 }
 
-fn sum(left: Mass, right: Mass) -> Option<Mass> {
+/// Writes a mass in its least form, and whether it is 0.
+fn tell(mass: Mass, answer: &mut Answer) {
+    let (reduced, is_zero) = (mass.reduced(), mass.is_zero());
+    write!(
+        answer,
+        "Answer {{ reduced: {reduced:?}, is_zero: {is_zero} }}"
+    );
+}
+
+fn tell_sum(left: Mass, right: Mass, row: &mut Row<'_>, answer: &mut Answer) {
     match left.a.checked_add(right.a) {
-        Some(first) if first <= 1i128 << 126 => Some(left.plus(right)),
-        _ => None,
+        Some(first) if first <= 1i128 << 126 => tell(left.plus(right), answer),
+        _ => row.refuse(),
     }
-}
-
-fn answer_in(words: &mut SplitWhitespace) -> Option<Answer> {
-    let call = words.next()?;
-    let first = mass_in(words)?;
-    let mass = match call {
-        "reduced" => first,
-        "plus" => sum(first, mass_in(words)?)?,
-        _ => return None,
-    };
-    Some(Answer {
-        reduced: mass.reduced(),
-        is_zero: mass.is_zero(),
-    })
 }
 
 /// `mass reduced NAME` and `mass plus NAME NAME`.
-pub fn answer_mass(call: &str, answer: &mut String) -> Result<(), OutOfMemory> {
-    match answer_in(&mut call.split_whitespace()) {
-        Some(told) => Ok(write!(answer, "{told:?}")?),
-        None => Ok(answer.push_str("no row")?),
+pub fn answer_mass(row: &mut Row<'_>, answer: &mut Answer) {
+    match row.word() {
+        "reduced" => tell(mass_in(row), answer),
+        "plus" => tell_sum(mass_in(row), mass_in(row), row, answer),
+        _ => row.refuse(),
     }
 }

@@ -1,58 +1,77 @@
 //! Rows of programs of the first form: their reading, their run and its report.
 
-ghost use Rattle.std.specs.Prelude.{IfOk, IfSome};
+ghost use Rattle.std.specs.Prelude.{IfSome};
 ghost use Rattle.qt_first.specs.Form.{IsWithinLimits};
 
-use crate::text::unescaped;
 use qt_first::program::Program;
 use qt_first::read::read;
-use qt_outside::faults::OutOfMemory;
-use qt_report::text_report;
+use qt_report::{Distribution, text_report};
 use qt_root2::mass::Reduced;
+use qt_rows::answer::Answer;
+use qt_rows::text::unescaped;
 use qt_run::run;
 use std::alloc::Global;
 
-/// The program whose text a row writes.
-fn program(alloc: Global, written: &str) -> Result<Option<Program>, OutOfMemory>
-    ensures { IfOk result (λ found. IfSome found IsWithinLimits) }
+/// The program whose text a row writes. Where there is none, the answer is `none`.
+fn program(alloc: Global, written: &str, answer: &mut Answer) -> Option<Program>
+    ensures { IfSome result IsWithinLimits }
 {
-    let text = unescaped(alloc, written)?;
-    Ok(read(alloc, text.as_bytes())?)
+    let text = answer.given(unescaped(alloc, written))?;
+    let program = answer.given(read(alloc, text.as_bytes()))?;
+    if program.is_none() {
+        answer.push_str("none");
+    }
+    program
 }
 
 /// `read TEXT`: the sizes of the registers, and the statements.
-pub fn answer_read(alloc: Global, text: &str, answer: &mut String) -> Result<(), OutOfMemory> {
-    let Some(program) = program(alloc, text)? else {
-        return Ok(answer.push_str("none")?);
-    };
-    let statements = program.statements.items();
-    write!(answer, "{} {} {statements:?}", program.qubits, program.bits)?;
-    Ok(())
+pub fn answer_read(alloc: Global, text: &str, answer: &mut Answer) {
+    if let Some(program) = program(alloc, text, answer) {
+        let (qubits, bits) = (program.qubits, program.bits);
+        let statements = program.statements.items();
+        write!(answer, "{qubits} {bits} {statements:?}");
+    }
+}
+
+/// The output values of the program of a text, with their chances.
+fn distribution(alloc: Global, text: &str, answer: &mut Answer) -> Option<Distribution> {
+    let program = program(alloc, text, answer)?;
+    answer.given(run(alloc, &program))
 }
 
 /// `run TEXT`: the registers, and the output values with their chances.
-pub fn answer_run(alloc: Global, text: &str, answer: &mut String) -> Result<(), OutOfMemory> {
-    let Some(program) = program(alloc, text)? else {
-        return Ok(answer.push_str("none")?);
-    };
-    let distribution = run(alloc, &program)?;
-    for register in distribution.layout() {
-        write!(answer, "{}:{}", register.name(), register.width())?;
+pub fn answer_run(alloc: Global, text: &str, answer: &mut Answer) {
+    if let Some(distribution) = distribution(alloc, text, answer) {
+        tell_registers(&distribution, answer);
+        tell_chances(&distribution, answer);
     }
+}
+
+fn tell_registers(distribution: &Distribution, answer: &mut Answer) {
+    for register in distribution.layout() {
+        let (name, width) = (register.name(), register.width());
+        write!(answer, "{name}:{width}");
+    }
+}
+
+fn tell_chances(distribution: &Distribution, answer: &mut Answer) {
     for chance in distribution.items() {
         let values = chance.output.values();
         let Reduced { a, b, k } = chance.of;
-        write!(answer, " {values:?} {a} {b} {k}")?;
+        write!(answer, " {values:?} {a} {b} {k}");
     }
-    Ok(())
+}
+
+/// Writes the report of the output values in quotes.
+pub fn tell_report(alloc: Global, distribution: &Distribution, answer: &mut Answer) {
+    if let Some(report) = answer.given(text_report(alloc, distribution)) {
+        write!(answer, "{report:?}");
+    }
 }
 
 /// `report TEXT`: the report of the run.
-pub fn answer_report(alloc: Global, text: &str, answer: &mut String) -> Result<(), OutOfMemory> {
-    let Some(program) = program(alloc, text)? else {
-        return Ok(answer.push_str("none")?);
-    };
-    let distribution = run(alloc, &program)?;
-    let report = text_report(alloc, &distribution)?;
-    Ok(write!(answer, "{report:?}")?)
+pub fn answer_report(alloc: Global, text: &str, answer: &mut Answer) {
+    if let Some(distribution) = distribution(alloc, text, answer) {
+        tell_report(alloc, &distribution, answer);
+    }
 }

@@ -1,130 +1,87 @@
 //! Rows of plain states.
 
-use crate::text::u32_in;
-use qt_outside::faults::OutOfMemory;
 use qt_plain::vector::StateVector;
+use qt_rows::answer::Answer;
+use qt_rows::row::Row;
 use std::alloc::{AllocError, Global};
-use std::str::SplitWhitespace;
 
-/// What is done to a state.
-#[derive(Clone, Copy)]
-enum Step {
-    Hadamard(u32),
-    X(u32),
-    T(u32),
-    ControlledX { control: u32, target: u32 },
-    Outcome(u32, bool),
-    Copy,
+/// Writes what is told of a state: the numerators of its mass over 2^96, its halvings, and whether all amplitudes are 0.
+fn tell(state: &StateVector, answer: &mut Answer) {
+    let mass = state.mass();
+    let (a, b) = (mass.a, mass.b);
+    let (halvings, vanishes) = (state.halvings(), state.vanishes());
+    write!(
+        answer,
+        "Summary {{ a: {a}, b: {b}, halvings: {halvings}, vanishes: {vanishes} }}"
+    );
 }
 
-/// What is told of a state: the numerators of its mass over 2^96, its halvings, and whether all amplitudes are 0.
-#[derive(Clone, Copy, Debug)]
-struct Summary {
-    a: i128,
-    b: i128,
-    halvings: u32,
-    vanishes: bool,
-}
-
-impl Summary {
-    fn of(state: &StateVector) -> Summary {
-        let mass = state.mass();
-        Summary {
-            a: mass.a,
-            b: mass.b,
-            halvings: state.halvings(),
-            vanishes: state.vanishes(),
-        }
+/// Puts the state that a call gave in place of the one before.
+fn put(next: Result<StateVector, AllocError>, state: &mut StateVector, answer: &mut Answer) {
+    match next {
+        Ok(next) => *state = next,
+        Err(_) => answer.lose(),
     }
 }
 
-fn step_in(words: &mut SplitWhitespace) -> Option<Step> {
-    match words.next()? {
-        "h" => Some(Step::Hadamard(u32_in(words)?)),
-        "x" => Some(Step::X(u32_in(words)?)),
-        "t" => Some(Step::T(u32_in(words)?)),
-        "cx" => Some(Step::ControlledX {
-            control: u32_in(words)?,
-            target: u32_in(words)?,
-        }),
-        "zero" => Some(Step::Outcome(u32_in(words)?, false)),
-        "one" => Some(Step::Outcome(u32_in(words)?, true)),
-        "copy" => Some(Step::Copy),
-        _ => None,
-    }
-}
-
-/// The state that a call gave.
-fn given(state: Result<StateVector, AllocError>) -> Result<Option<StateVector>, OutOfMemory> {
-    Ok(Some(state?))
-}
-
-/// The state after a step, where the state has the step's qubits and room for it.
-fn after_step(
+/// Steps on one qubit, which the state has.
+fn on_qubit(
     alloc: Global,
-    state: &StateVector,
-    step: Step,
-) -> Result<Option<StateVector>, OutOfMemory> {
-    let qubits = state.qubits();
-    if state.halvings() >= 32 {
-        return Ok(None);
+    call: &str,
+    row: &mut Row<'_>,
+    state: &mut StateVector,
+    answer: &mut Answer,
+) {
+    let qubit = row.u32();
+    if qubit >= state.qubits() || state.halvings() >= 32 {
+        return row.refuse();
     }
-    match step {
-        Step::Hadamard(qubit) if qubit < qubits => given(state.hadamard(alloc, qubit)),
-        Step::X(qubit) if qubit < qubits => given(state.x(alloc, qubit)),
-        Step::T(qubit) if qubit < qubits => given(state.t(alloc, qubit)),
-        Step::ControlledX { control, target }
-            if control < qubits && target < qubits && control != target => {
-            given(state.controlled_x(alloc, control, target))
-        }
-        Step::Outcome(qubit, outcome) if qubit < qubits => {
-            given(state.projected(alloc, qubit, outcome))
-        }
-        Step::Copy => given(state.copied(alloc)),
-        _ => Ok(None),
+    match call {
+        "h" => put(state.hadamard(alloc, qubit), state, answer),
+        "x" => put(state.x(alloc, qubit), state, answer),
+        "t" => put(state.t(alloc, qubit), state, answer),
+        "zero" => put(state.projected(alloc, qubit, false), state, answer),
+        "one" => put(state.projected(alloc, qubit, true), state, answer),
+        _ => row.refuse(),
     }
 }
 
-/// The state after all steps, from qubits in 0.
-fn after_steps(
-    alloc: Global,
-    qubits: u32,
-    steps: &str,
-) -> Result<Option<StateVector>, OutOfMemory> {
-    if qubits > 4 {
-        return Ok(None);
+fn controlled_x(alloc: Global, row: &mut Row<'_>, state: &mut StateVector, answer: &mut Answer) {
+    let (control, target, qubits) = (row.u32(), row.u32(), state.qubits());
+    if control < qubits && target < qubits && control != target && state.halvings() < 32 {
+        put(state.controlled_x(alloc, control, target), state, answer);
+    } else {
+        row.refuse();
     }
-    let mut state = StateVector::zero(alloc, qubits)?;
-    for written in steps.split(';') {
-        let Some(step) = step_in(&mut written.split_whitespace()) else {
-            return Ok(None);
-        };
-        let Some(next) = after_step(alloc, &state, step)? else {
-            return Ok(None);
-        };
-        state = next;
-    }
-    Ok(Some(state))
 }
 
-/// What is told of the state after the steps of a row.
-fn summary_in(alloc: Global, row: &str) -> Result<Option<Summary>, OutOfMemory> {
-    let Some((size, steps)) = row.split_once(' ') else {
-        return Ok(None);
-    };
-    let Ok(qubits) = size.parse::<u32>() else {
-        return Ok(None);
-    };
-    match after_steps(alloc, qubits, steps)? {
-        Some(state) => Ok(Some(Summary::of(&state))),
-        None => Ok(None),
+fn take_step(alloc: Global, row: &mut Row<'_>, state: &mut StateVector, answer: &mut Answer) {
+    match row.word() {
+        "copy" => put(state.copied(alloc), state, answer),
+        "cx" => controlled_x(alloc, row, state, answer),
+        call => on_qubit(alloc, call, row, state, answer),
+    }
+}
+
+fn take_steps(alloc: Global, row: &mut Row<'_>, state: &mut StateVector, answer: &mut Answer) {
+    for written in row.rest.split(';') {
+        let mut step = Row::new(written);
+        take_step(alloc, &mut step, state, answer);
+        row.refused |= step.refused;
     }
 }
 
 /// `plain QUBITS STEP; STEP; ..`.
-pub fn answer_plain(alloc: Global, row: &str, answer: &mut String) -> Result<(), OutOfMemory> {
-    match summary_in(alloc, row)? {
-        Some(told) => Ok(write!(answer, "{told:?}")?),
-        None => Ok(answer.push_str("no row")?),
+pub fn answer_plain(alloc: Global, row: &mut Row<'_>, answer: &mut Answer) {
+    let qubits = row.u32();
+    if qubits > 4 {
+        return row.refuse();
+    }
+    match StateVector::zero(alloc, qubits) {
+        Ok(mut state) => {
+            take_steps(alloc, row, &mut state, answer);
+            tell(&state, answer);
+        }
+        Err(_) => answer.lose(),
     }
 }

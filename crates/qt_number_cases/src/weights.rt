@@ -3,11 +3,10 @@
 ghost use Rattle.std.specs.Prelude.{◌≤◌, IfSome, unsigned_abs};
 ghost use Rattle.qt_root2.specs.Root2.{IsGood};
 
-use crate::text::{i32_in, i128_in, u8_in};
-use qt_outside::faults::OutOfMemory;
 use qt_root2::scale::{NumberFault, Scale};
 use qt_root2::weight::Weight;
-use std::str::SplitWhitespace;
+use qt_rows::answer::Answer;
+use qt_rows::row::Row;
 
 const LEAST: Weight = Weight { a: 1, b: 0 };
 
@@ -36,48 +35,47 @@ const SMALLER: Weight = Weight {
     b: -4866752642924153522,
 };
 
-/// What a call answers.
-#[derive(Clone, Copy, Debug)]
-enum Answer {
-    Weight(i128, i128),
-    Mass(i128, i128),
-    Fault,
-}
-
-fn weight_in(words: &mut SplitWhitespace) -> Option<Weight> {
-    match words.next()? {
-        "one" => Some(Weight::one()),
-        "least" => Some(LEAST),
-        "largest" => Some(LARGEST),
-        "falling" => Some(FALLING),
-        "sloped" => Some(SLOPED),
-        "small" => Some(SMALL),
-        "smaller" => Some(SMALLER),
-        _ => None,
+fn weight_in(row: &mut Row<'_>) -> Weight {
+    match row.word() {
+        "one" => Weight::one(),
+        "least" => LEAST,
+        "largest" => LARGEST,
+        "falling" => FALLING,
+        "sloped" => SLOPED,
+        "small" => SMALL,
+        "smaller" => SMALLER,
+        _ => {
+            row.refuse();
+            Weight::one()
+        }
     }
 }
 
-fn scale_in(words: &mut SplitWhitespace) -> Option<Scale>
-    ensures twos { IfSome result (λ by. unsigned_abs by.twos ≤ 1024) }
-    ensures units { IfSome result (λ by. unsigned_abs by.units ≤ 512) }
-    ensures primes { IfSome result (λ by. by.primes ≤ 1) }
+fn scale_in(row: &mut Row<'_>) -> Scale
+    ensures twos { unsigned_abs result.twos ≤ 1024 }
+    ensures units { unsigned_abs result.units ≤ 512 }
+    ensures primes { result.primes ≤ 1 }
 {
-    let (twos, units, primes) = (i32_in(words)?, i32_in(words)?, u8_in(words)?);
-    if twos.unsigned_abs() > 1024 || units.unsigned_abs() > 512 || primes > 1 {
-        return None;
+    let (twos, units, primes) = (row.i32(), row.i32(), row.u8());
+    if twos.unsigned_abs() <= 1024 && units.unsigned_abs() <= 512 && primes <= 1 {
+        return Scale {
+            twos,
+            units,
+            primes,
+        };
     }
-    Some(Scale {
-        twos,
-        units,
-        primes,
-    })
+    row.refuse();
+    Scale {
+        twos: 0,
+        units: 0,
+        primes: 0,
+    }
 }
 
-/// A norm `a + b√2`: neither it nor its conjugate is below 0.
-fn norm_in(words: &mut SplitWhitespace) -> Option<(i128, i128)>
+/// The norm `a + b√2`, if neither it nor its conjugate is below 0.
+fn norm(a: i128, b: i128) -> Option<(i128, i128)>
     ensures { IfSome result (λ norm. IsGood norm.0 norm.1) }
 {
-    let (a, b) = (i128_in(words)?, i128_in(words)?);
     let second = 2i128.checked_mul(b.checked_mul(b)?)?;
     if a < 0 || second > a.checked_mul(a)? {
         return None;
@@ -85,51 +83,38 @@ fn norm_in(words: &mut SplitWhitespace) -> Option<(i128, i128)>
     Some((a, b))
 }
 
-fn sum(left: Weight, right: Weight) -> Option<Answer> {
-    match left.a.checked_add(right.a) {
-        Some(first) if first <= 1i128 << 126 => {
-            let sum = left.plus(right);
-            Some(Answer::Weight(sum.a, sum.b))
-        }
-        _ => None,
+fn tell(weight: Result<Weight, NumberFault>, answer: &mut Answer) {
+    match weight {
+        Ok(Weight { a, b }) => write!(answer, "Weight({a}, {b})"),
+        Err(NumberFault) => answer.push_str("Fault"),
     }
 }
 
-fn scaled(weight: Weight, by: Scale) -> Answer
-    requires twos { unsigned_abs by.twos ≤ 1024 }
-    requires units { unsigned_abs by.units ≤ 512 }
-    requires primes { by.primes ≤ 1 }
-{
-    match weight.scaled(by) {
-        Ok(scaled) => Answer::Weight(scaled.a, scaled.b),
-        Err(NumberFault) => Answer::Fault,
-    }
-}
-
-fn mass(weight: Weight, norm: (i128, i128)) -> Answer
-    requires { IsGood norm.0 norm.1 }
-{
+fn tell_mass(weight: Weight, row: &mut Row<'_>, answer: &mut Answer) {
+    let Some(norm) = norm(row.i128(), row.i128()) else {
+        return row.refuse();
+    };
     match weight.mass(norm) {
-        Ok(mass) => Answer::Mass(mass.a, mass.b),
-        Err(NumberFault) => Answer::Fault,
+        Ok(mass) => write!(answer, "Mass({}, {})", mass.a, mass.b),
+        Err(NumberFault) => answer.push_str("Fault"),
     }
 }
 
-fn answer_in(words: &mut SplitWhitespace) -> Option<Answer> {
-    let call = words.next()?;
-    let weight = weight_in(words)?;
-    match call {
-        "scaled" => Some(scaled(weight, scale_in(words)?)),
-        "mass" => Some(mass(weight, norm_in(words)?)),
-        "plus" => sum(weight, weight_in(words)?),
-        _ => None,
+fn tell_sum(left: Weight, right: Weight, row: &mut Row<'_>, answer: &mut Answer) {
+    match left.a.checked_add(right.a) {
+        Some(first) if first <= 1i128 << 126 => tell(Ok(left.plus(right)), answer),
+        _ => row.refuse(),
     }
 }
 
 /// `weight CALL NAME ..`.
-pub fn answer_weight(call: &str, answer: &mut String) -> Result<(), OutOfMemory> {
-    match answer_in(&mut call.split_whitespace()) {
-        Some(told) => Ok(write!(answer, "{told:?}")?),
-        None => Ok(answer.push_str("no row")?),
+pub fn answer_weight(row: &mut Row<'_>, answer: &mut Answer) {
+    let call = row.word();
+    let weight = weight_in(row);
+    match call {
+        "scaled" => tell(weight.scaled(scale_in(row)), answer),
+        "mass" => tell_mass(weight, row, answer),
+        "plus" => tell_sum(weight, weight_in(row), row, answer),
+        _ => row.refuse(),
     }
 }

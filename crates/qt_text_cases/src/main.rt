@@ -8,53 +8,44 @@
 #![tactic(auto)]
 
 mod outside;
-mod text;
 mod tokens;
 mod trees;
 
-use qt_outside::faults::OutOfMemory;
+use qt_rows::answer::Answer;
+use qt_rows::cases::{Cases, answer_lines};
+use qt_rows::row::Row;
 use std::alloc::Global;
-use std::io::{self, BufWriter, Write};
+use std::io;
 use std::process::ExitCode;
 
-/// The answer to a row, written behind what stands in `answer`.
-fn answer_row(alloc: Global, row: &str, answer: &mut String) -> Result<(), OutOfMemory> {
-    let (call, rest) = match row.split_once(' ') {
-        Some((call, rest)) => (call, rest),
-        None => (row, ""),
-    };
-    match call {
-        "fault" => outside::fault(rest, answer),
-        "shelf" => outside::shelf(alloc, rest, answer),
-        "sure_shelf" => outside::sure_shelf(alloc, rest, answer),
-        "sink" => outside::sink(alloc, rest, answer),
-        "sure_sink" => outside::sure_sink(alloc, answer),
-        "tree" => trees::tree(alloc, answer),
-        "labels" => trees::labels(alloc, rest, answer),
-        "lengths" => trees::lengths(alloc, rest, answer),
-        "order" => trees::order(rest, answer),
-        "features" => trees::features(answer),
-        "causes" => trees::causes(answer),
-        "refusals" => trees::refusals(alloc, rest, answer),
-        "lex" => tokens::lexed(alloc, rest, answer),
-        "first_fault" => tokens::fault(alloc, rest, answer),
-        "terminals" => tokens::terminals(alloc, rest, answer),
-        "replaced" => tokens::replaced(alloc, rest, answer),
-        _ => Ok(answer.push_str("no row")?),
+/// What answers the rows.
+#[derive(Drop)]
+struct TextCases;
+
+impl Cases for TextCases {
+    fn answer(&mut self, alloc: Global, row: &mut Row<'_>, answer: &mut Answer) {
+        match row.word() {
+            "fault" => outside::fault(row, answer),
+            "shelf" => outside::shelf(alloc, row, answer),
+            "sure_shelf" => outside::sure_shelf(alloc, row.rest, answer),
+            "sink" => outside::sink(alloc, row, answer),
+            "sure_sink" => outside::sure_sink(alloc, answer),
+            "tree" => trees::tree(alloc, answer),
+            "labels" => trees::labels(alloc, row, answer),
+            "lengths" => trees::lengths(alloc, row.rest, answer),
+            "order" => trees::order(row, answer),
+            "features" => trees::features(answer),
+            "causes" => trees::causes(answer),
+            "refusals" => trees::refusals(alloc, row, answer),
+            "lex" => tokens::lexed(alloc, row.rest, answer),
+            "first_fault" => tokens::fault(alloc, row.rest, answer),
+            "terminals" => tokens::terminals(alloc, row.rest, answer),
+            "replaced" => tokens::replaced(alloc, row.rest, answer),
+            _ => row.refuse(),
+        }
     }
 }
 
 fn main(rt: HostRuntime) -> io::Result<ExitCode> {
-    let alloc = rt.alloc();
-    let rows = io::read_to_string(alloc, rt.reader())?;
-    let mut out = BufWriter::new(alloc, io::writer(&rt))?;
-    for row in rows.lines() {
-        let mut answer = String::new(alloc);
-        if answer_row(alloc, row, &mut answer).is_err() {
-            return Ok(ExitCode::FAILURE);
-        }
-        writeln!(out, "{answer}")?;
-    }
-    out.flush()?;
-    Ok(ExitCode::SUCCESS)
+    answer_lines(rt.alloc(), &mut TextCases, rt.reader(), io::writer(&rt))
 }

@@ -1,7 +1,8 @@
 //! Rows of trees, labels, places and refusals.
 
-use crate::text::{u16_in, u32_in};
 use qt_outside::faults::OutOfMemory;
+use qt_rows::answer::Answer;
+use qt_rows::row::Row;
 use qt_tree::expression::{Expr, PrefixOperator};
 use qt_tree::label::{Label, Setting};
 use qt_tree::lengths::Lengths;
@@ -11,7 +12,6 @@ use qt_tree::refusal::{Cause, Feature, TextRefusal};
 use qt_tree::statement::{CalledGate, GateCall, Operand, Statement, StatementForm};
 use sqlite_items::{Boxed, Items};
 use std::alloc::Global;
-use std::str::SplitWhitespace;
 
 const FEATURES: [Feature; 24] = [
     Feature::Float,
@@ -158,101 +158,116 @@ fn tested_name(form: &StatementForm) -> Option<&Label> {
     }
 }
 
-/// The place of an item, and the names that its statement calls and tests.
-fn item_told(item: &Item, answer: &mut String) -> Result<(), OutOfMemory> {
-    let at = item.place();
-    write!(answer, "{at:?};")?;
-    let Item::Statement { statement } = item else {
-        return Ok(answer.push_str("no statement;")?);
-    };
-    for name in [called_name(&statement.form), tested_name(&statement.form)] {
-        let text = match name {
-            Some(name) => name.text(),
-            None => "none",
-        };
-        write!(answer, "{text};")?;
+/// A name, or that there is none.
+fn name_told(name: Option<&Label>, answer: &mut Answer) {
+    match name {
+        Some(name) => answer.push_str(name.text()),
+        None => answer.push_str("none"),
     }
-    Ok(())
+    answer.push_str(";");
+}
+
+/// The place of an item, and the names that its statement calls and tests.
+fn item_told(item: &Item, answer: &mut Answer) {
+    let at = item.place();
+    write!(answer, "{at:?};");
+    match item {
+        Item::Statement { statement } => {
+            name_told(called_name(&statement.form), answer);
+            name_told(tested_name(&statement.form), answer);
+        }
+        _ => answer.push_str("no statement;"),
+    }
+}
+
+fn program_told(program: &Program, answer: &mut Answer) {
+    let (versions, items) = (program.versions.len(), program.items.len());
+    write!(answer, "{versions} {items};");
+    for item in program.items.as_slice() {
+        item_told(item, answer);
+    }
 }
 
 /// `tree`: the program of one statement, told again.
-pub fn tree(alloc: Global, answer: &mut String) -> Result<(), OutOfMemory> {
-    let program = program(alloc)?;
-    let (versions, items) = (program.versions.len(), program.items.len());
-    write!(answer, "{versions} {items};")?;
-    for item in program.items.as_slice() {
-        item_told(item, answer)?;
+pub fn tree(alloc: Global, answer: &mut Answer) {
+    match program(alloc) {
+        Ok(program) => program_told(&program, answer),
+        Err(_) => answer.lose(),
     }
-    Ok(())
+}
+
+/// A setting of a name whose value is the copy of the name.
+fn setting(alloc: Global, name: &str) -> Result<Setting, OutOfMemory> {
+    let name = Label::new(alloc, name)?;
+    let value = name.copied(alloc)?;
+    Ok(Setting { name, value })
+}
+
+fn setting_told(setting: &Setting, other: &Label, answer: &mut Answer) {
+    answer.push_str(setting.value.text());
+    let alike = setting.name == setting.value;
+    let same = setting.name == *other;
+    write!(answer, ";{alike};{same}");
 }
 
 /// `labels NAME OTHER`: the copy of a name, whether a setting of the name and its copy has both alike, and whether the name is the
 /// other.
-pub fn labels(alloc: Global, rest: &str, answer: &mut String) -> Result<(), OutOfMemory> {
-    let Some((name, other)) = rest.split_once(' ') else {
-        return Ok(answer.push_str("no row")?);
-    };
-    let label = Label::new(alloc, name)?;
-    let copy = label.copied(alloc)?;
-    answer.push_str(copy.text())?;
-    let setting = Setting {
-        name: label,
-        value: copy,
-    };
-    let alike = setting.name == setting.value;
-    let same = setting.name == Label::new(alloc, other)?;
-    Ok(write!(answer, ";{alike};{same}")?)
+pub fn labels(alloc: Global, row: &mut Row<'_>, answer: &mut Answer) {
+    let (name, other) = (row.word(), row.word());
+    if let Some(setting) = answer.given(setting(alloc, name)) {
+        if let Some(other) = answer.given(Label::new(alloc, other)) {
+            setting_told(&setting, &other, answer);
+        }
+    }
+}
+
+/// The numbers of a text.
+fn numbers_in(alloc: Global, written: &str, answer: &mut Answer) -> Vec<u32> {
+    let mut numbers = Vec::new(alloc);
+    for word in written.split_whitespace() {
+        if let Ok(number) = word.parse::<u32>() {
+            answer.require(numbers.push(number));
+        }
+    }
+    numbers
 }
 
 /// `lengths NUMBERS`: the numbers of a copy.
-pub fn lengths(alloc: Global, rest: &str, answer: &mut String) -> Result<(), OutOfMemory> {
-    let mut numbers = Vec::new(alloc);
-    for word in rest.split_whitespace() {
-        if let Ok(number) = word.parse::<u32>() {
-            numbers.push(number)?;
+pub fn lengths(alloc: Global, written: &str, answer: &mut Answer) {
+    let lengths = Lengths::from_vec(numbers_in(alloc, written, answer));
+    if let Some(copy) = answer.given(lengths.copied(alloc)) {
+        for number in copy.items() {
+            write!(answer, "{number};");
         }
     }
-    let lengths = Lengths::from_vec(numbers);
-    let copy = lengths.copied(alloc)?;
-    for number in copy.items() {
-        write!(answer, "{number};")?;
-    }
-    Ok(())
 }
 
-fn place_in(words: &mut SplitWhitespace) -> Option<Place> {
-    let file = u16_in(words)?;
-    let line = u32_in(words)?;
-    let column = u32_in(words)?;
-    Some(Place { file, line, column })
+fn place_in(row: &mut Row<'_>) -> Place {
+    let (file, line, column) = (row.u16(), row.u32(), row.u32());
+    Place { file, line, column }
 }
 
 /// `order FILE LINE COLUMN FILE LINE COLUMN`: whether the one place is before the other, and the other before the one.
-pub fn order(rest: &str, answer: &mut String) -> Result<(), OutOfMemory> {
-    let mut words = rest.split_whitespace();
-    let (Some(one), Some(other)) = (place_in(&mut words), place_in(&mut words)) else {
-        return Ok(answer.push_str("no row")?);
-    };
+pub fn order(row: &mut Row<'_>, answer: &mut Answer) {
+    let (one, other) = (place_in(row), place_in(row));
     let (before, behind) = (one < other, other < one);
-    Ok(write!(answer, "{before};{behind}")?)
+    write!(answer, "{before};{behind}");
 }
 
 /// `features`: each feature and the word that tells it.
-pub fn features(answer: &mut String) -> Result<(), OutOfMemory> {
+pub fn features(answer: &mut Answer) {
     for feature in FEATURES {
         let word = feature.text();
-        write!(answer, "{feature:?} {word};")?;
+        write!(answer, "{feature:?} {word};");
     }
-    Ok(())
 }
 
 /// `causes`: each cause and the word that tells it.
-pub fn causes(answer: &mut String) -> Result<(), OutOfMemory> {
+pub fn causes(answer: &mut Answer) {
     for cause in CAUSES {
         let word = cause.word();
-        write!(answer, "{cause:?} {word};")?;
+        write!(answer, "{cause:?} {word};");
     }
-    Ok(())
 }
 
 /// A refusal of that name.
@@ -260,14 +275,20 @@ fn refused(alloc: Global, name: &str) -> Result<TextRefusal, OutOfMemory> {
     Ok(TextRefusal::E8(place(3, 4), Label::new(alloc, name)?))
 }
 
-/// `refusals NAME OTHER`: whether the refusals of two names are the same, and whether that of the one is a refusal of types, or one for want of memory.
-pub fn refusals(alloc: Global, rest: &str, answer: &mut String) -> Result<(), OutOfMemory> {
-    let Some((name, other)) = rest.split_once(' ') else {
-        return Ok(answer.push_str("no row")?);
-    };
-    let refusal = refused(alloc, name)?;
-    let same = refusal == refused(alloc, other)?;
-    let typed = refusal == TextRefusal::E10(place(3, 4));
-    let want = refusal == TextRefusal::from(OutOfMemory);
-    Ok(write!(answer, "{same};{typed};{want}")?)
+fn refusals_told(one: &TextRefusal, other: &TextRefusal, answer: &mut Answer) {
+    let same = *one == *other;
+    let typed = *one == TextRefusal::E10(place(3, 4));
+    let want = *one == TextRefusal::from(OutOfMemory);
+    write!(answer, "{same};{typed};{want}");
+}
+
+/// `refusals NAME OTHER`: whether the refusals of two names are the same, and whether that of the one is a refusal of types, or one for
+/// want of memory.
+pub fn refusals(alloc: Global, row: &mut Row<'_>, answer: &mut Answer) {
+    let (name, other) = (row.word(), row.word());
+    if let Some(one) = answer.given(refused(alloc, name)) {
+        if let Some(other) = answer.given(refused(alloc, other)) {
+            refusals_told(&one, &other, answer);
+        }
+    }
 }
