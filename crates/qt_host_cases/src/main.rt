@@ -15,48 +15,31 @@ mod stage;
 mod wide;
 
 use crate::stage::Stage;
-use qt_outside::faults::OutOfMemory;
+use qt_rows::answer::Answer;
+use qt_rows::cases::{Cases, answer_lines};
+use qt_rows::row::Row;
 use std::alloc::Global;
-use std::io::{self, BufWriter, Write};
+use std::io;
 use std::process::ExitCode;
 
-/// The answer to a row, written behind what stands in `answer`.
-fn answer_row(
-    alloc: Global,
-    row: &str,
-    stage: &mut Stage,
-    answer: &mut String,
-) -> Result<(), OutOfMemory> {
-    let (call, rest) = match row.split_once(' ') {
-        Some((call, rest)) => (call, rest),
-        None => (row, ""),
-    };
-    match call {
-        "new" => stage.clear(alloc, answer),
-        "text" => stage.put_text(alloc, rest, answer),
-        "filled" => stage.put_filled(alloc, rest, answer),
-        "wide" => stage.put_wide(alloc, rest, answer),
-        "fetch" => stage.fail_fetch(rest, answer),
-        "out" => stage.fail_out(rest, answer),
-        "err" => stage.fail_err(rest, answer),
-        "host" => calls::host(alloc, rest, stage, answer),
-        "format" => calls::format(alloc, rest, stage, answer),
-        _ => Ok(answer.push_str("no row")?),
+impl Cases for Stage {
+    fn answer(&mut self, alloc: Global, row: &mut Row<'_>, answer: &mut Answer) {
+        match row.word() {
+            "new" => self.clear(alloc, answer),
+            "text" => self.put_text(alloc, row, answer),
+            "filled" => self.put_filled(alloc, row, answer),
+            "wide" => self.put_wide(alloc, row, answer),
+            "fetch" => self.fail_fetch(row, answer),
+            "out" => self.fail_out(row, answer),
+            "err" => self.fail_err(row, answer),
+            "host" => calls::host(alloc, row.rest, self, answer),
+            "format" => calls::format(alloc, row.rest, self, answer),
+            _ => row.refuse(),
+        }
     }
 }
 
 fn main(rt: HostRuntime) -> io::Result<ExitCode> {
     let alloc = rt.alloc();
-    let rows = io::read_to_string(alloc, rt.reader())?;
-    let mut out = BufWriter::new(alloc, io::writer(&rt))?;
-    let mut stage = Stage::new(alloc);
-    for row in rows.lines() {
-        let mut answer = String::new(alloc);
-        if answer_row(alloc, row, &mut stage, &mut answer).is_err() {
-            return Ok(ExitCode::FAILURE);
-        }
-        writeln!(out, "{answer}")?;
-    }
-    out.flush()?;
-    Ok(ExitCode::SUCCESS)
+    answer_lines(alloc, &mut Stage::new(alloc), rt.reader(), io::writer(&rt))
 }

@@ -2,9 +2,10 @@
 
 use crate::escapes::unescaped;
 use crate::wide::wide;
-use qt_outside::faults::OutOfMemory;
 use qt_outside::memory_shelf::MemoryShelf;
 use qt_outside::memory_sink::MemorySink;
+use qt_rows::answer::Answer;
+use qt_rows::row::Row;
 use std::alloc::Global;
 
 /// The most bytes that a text is filled up to.
@@ -18,26 +19,11 @@ pub struct Stage {
     pub err: MemorySink,
 }
 
-/// A number, and the other number behind it.
-fn two_numbers(rest: &str) -> Option<(u32, u32)> {
-    let (first, second) = rest.split_once(' ')?;
-    Some((first.parse::<u32>().ok()?, second.parse::<u32>().ok()?))
-}
-
-/// A name, and what stands behind it.
-fn name_and_rest(rest: &str) -> (&str, &str) {
-    match rest.split_once(' ') {
-        Some((name, behind)) => (name, behind),
-        None => (rest, ""),
-    }
-}
-
 /// Appends line feeds up to so many bytes.
-fn fill(bytes: &mut Vec<u8>, count: usize) -> Result<(), OutOfMemory> {
+fn fill(bytes: &mut Vec<u8>, count: usize, answer: &mut Answer) {
     for _ in bytes.len()..count {
-        bytes.push(b'\n')?;
+        answer.require(bytes.push(b'\n'));
     }
-    Ok(())
 }
 
 impl Stage {
@@ -50,77 +36,51 @@ impl Stage {
     }
 
     /// `new`: a shelf without texts.
-    pub fn clear(&mut self, alloc: Global, answer: &mut String) -> Result<(), OutOfMemory> {
+    pub fn clear(&mut self, alloc: Global, answer: &mut Answer) {
         self.shelf = MemoryShelf::new(alloc);
-        Ok(answer.push_str("new")?)
+        answer.push_str("new");
     }
 
     /// `text NAME TEXT`
-    pub fn put_text(
-        &mut self,
-        alloc: Global,
-        rest: &str,
-        answer: &mut String,
-    ) -> Result<(), OutOfMemory> {
-        let (name, written) = name_and_rest(rest);
-        let bytes = unescaped(alloc, written)?;
-        self.shelf.add_text(name, bytes.as_slice())?;
-        Ok(answer.push_str("text")?)
+    pub fn put_text(&mut self, alloc: Global, row: &mut Row<'_>, answer: &mut Answer) {
+        let name = row.word();
+        let bytes = unescaped(alloc, row.rest, answer);
+        answer.require(self.shelf.add_text(name, bytes.as_slice()));
+        answer.push_str("text");
     }
 
     /// `filled NAME COUNT TEXT`
-    pub fn put_filled(
-        &mut self,
-        alloc: Global,
-        rest: &str,
-        answer: &mut String,
-    ) -> Result<(), OutOfMemory> {
-        let (name, rest) = name_and_rest(rest);
-        let (count, written) = name_and_rest(rest);
-        let count = count.parse::<usize>().unwrap_or(0).min(MOST_FILLED);
-        let mut bytes = unescaped(alloc, written)?;
-        fill(&mut bytes, count)?;
-        self.shelf.add_text(name, bytes.as_slice())?;
-        Ok(answer.push_str("filled")?)
+    pub fn put_filled(&mut self, alloc: Global, row: &mut Row<'_>, answer: &mut Answer) {
+        let (name, count) = (row.word(), row.usize().min(MOST_FILLED));
+        let mut bytes = unescaped(alloc, row.rest, answer);
+        fill(&mut bytes, count, answer);
+        answer.require(self.shelf.add_text(name, bytes.as_slice()));
+        answer.push_str("filled");
     }
 
     /// `wide NAME TEXT`
-    pub fn put_wide(
-        &mut self,
-        alloc: Global,
-        rest: &str,
-        answer: &mut String,
-    ) -> Result<(), OutOfMemory> {
-        let (name, text) = name_and_rest(rest);
-        let bytes = wide(alloc, text)?;
-        self.shelf.add_text(name, bytes.as_slice())?;
-        Ok(answer.push_str("wide")?)
+    pub fn put_wide(&mut self, alloc: Global, row: &mut Row<'_>, answer: &mut Answer) {
+        let name = row.word();
+        let bytes = wide(alloc, row.rest, answer);
+        answer.require(self.shelf.add_text(name, bytes.as_slice()));
+        answer.push_str("wide");
     }
 
     /// `fetch CALL`: that fetch fails.
-    pub fn fail_fetch(&mut self, rest: &str, answer: &mut String) -> Result<(), OutOfMemory> {
-        let Ok(call) = rest.parse::<u32>() else {
-            return Ok(answer.push_str("no row")?);
-        };
-        self.shelf.fail_at(call)?;
-        Ok(answer.push_str("fetch")?)
+    pub fn fail_fetch(&mut self, row: &mut Row<'_>, answer: &mut Answer) {
+        answer.require(self.shelf.fail_at(row.u32()));
+        answer.push_str("fetch");
     }
 
     /// `out CALL KEPT`: in the next call that put of the answer fails and keeps so many bytes.
-    pub fn fail_out(&mut self, rest: &str, answer: &mut String) -> Result<(), OutOfMemory> {
-        let Some((call, kept)) = two_numbers(rest) else {
-            return Ok(answer.push_str("no row")?);
-        };
-        self.out.fail_at(call, kept)?;
-        Ok(answer.push_str("out")?)
+    pub fn fail_out(&mut self, row: &mut Row<'_>, answer: &mut Answer) {
+        answer.require(self.out.fail_at(row.u32(), row.u32()));
+        answer.push_str("out");
     }
 
     /// `err CALL KEPT`: in the next call that put of the fault line fails and keeps so many bytes.
-    pub fn fail_err(&mut self, rest: &str, answer: &mut String) -> Result<(), OutOfMemory> {
-        let Some((call, kept)) = two_numbers(rest) else {
-            return Ok(answer.push_str("no row")?);
-        };
-        self.err.fail_at(call, kept)?;
-        Ok(answer.push_str("err")?)
+    pub fn fail_err(&mut self, row: &mut Row<'_>, answer: &mut Answer) {
+        answer.require(self.err.fail_at(row.u32(), row.u32()));
+        answer.push_str("err");
     }
 }

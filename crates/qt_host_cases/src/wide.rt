@@ -1,7 +1,8 @@
 //! Texts with comments between their tokens.
 
 use qt_lex::lexer::lex;
-use qt_outside::faults::OutOfMemory;
+use qt_lex::tokens::Token;
+use qt_rows::answer::Answer;
 use std::alloc::Global;
 
 /// What stands in every gap of a wide text.
@@ -10,20 +11,35 @@ const GAP: &str = " /* a \n * b **/\t// c \u{3c0}\r\n  ";
 /// The longest text that is made wide.
 const LONGEST: usize = 4096;
 
-/// The tokens of a text, with comments in every gap; the text itself where it has no tokens or is long.
-pub fn wide(alloc: Global, text: &str) -> Result<Vec<u8>, OutOfMemory> {
+/// The tokens of a text, if there are any and the text isn't long.
+fn tokens_of(alloc: Global, text: &str) -> Option<Vec<Token>> {
     if text.len() > LONGEST {
-        return Ok(Vec::from_slice(alloc, text.as_bytes())?);
+        return None;
     }
-    let Ok(tokens) = lex(alloc, text, 0) else {
-        return Ok(Vec::from_slice(alloc, text.as_bytes())?);
-    };
-    let mut all = Vec::from_slice(alloc, GAP.as_bytes())?;
-    for token in &tokens {
+    lex(alloc, text, 0).ok()
+}
+
+/// Appends a text.
+fn push(bytes: &mut Vec<u8>, text: &[u8], answer: &mut Answer) {
+    answer.require(bytes.extend_from_slice(text));
+}
+
+fn push_tokens(bytes: &mut Vec<u8>, text: &str, tokens: &[Token], answer: &mut Answer) {
+    push(bytes, GAP.as_bytes(), answer);
+    for token in tokens {
         if let Some(spelling) = text.as_bytes().get(token.start..token.end) {
-            all.extend_from_slice(spelling)?;
-            all.extend_from_slice(GAP.as_bytes())?;
+            push(bytes, spelling, answer);
+            push(bytes, GAP.as_bytes(), answer);
         }
     }
-    Ok(all)
+}
+
+/// The tokens of a text, with comments in every gap; the text itself where it has no tokens or is long.
+pub fn wide(alloc: Global, text: &str, answer: &mut Answer) -> Vec<u8> {
+    let mut bytes = Vec::new(alloc);
+    match tokens_of(alloc, text) {
+        Some(tokens) => push_tokens(&mut bytes, text, tokens.as_slice(), answer),
+        None => push(&mut bytes, text.as_bytes(), answer),
+    }
+    bytes
 }
