@@ -27,6 +27,19 @@ use std::process::ExitCode;
 #[derive(Drop)]
 struct NumberCases;
 
+/// The answer of a call on a program or a report.
+fn answer_report(alloc: Global, call: &str, row: &mut Row<'_>, answer: &mut Answer) {
+    match call {
+        "fraction" => reports::answer_fraction(alloc, row, answer),
+        "sure" => reports::answer_sure(alloc, row, answer),
+        "either" => reports::answer_either(alloc, row, answer),
+        "read" => programs::answer_read(alloc, row.rest, answer),
+        "run" => programs::answer_run(alloc, row.rest, answer),
+        "report" => programs::answer_report(alloc, row.rest, answer),
+        _ => row.refuse(),
+    }
+}
+
 impl Cases for NumberCases {
     fn answer(&mut self, alloc: Global, row: &mut Row<'_>, answer: &mut Answer) {
         match row.word() {
@@ -35,13 +48,7 @@ impl Cases for NumberCases {
             "weight" => weights::answer_weight(row, answer),
             "mass" => masses::answer_mass(row, answer),
             "plain" => states::answer_plain(alloc, row, answer),
-            "fraction" => reports::answer_fraction(alloc, row, answer),
-            "sure" => reports::answer_sure(alloc, row, answer),
-            "either" => reports::answer_either(alloc, row, answer),
-            "read" => programs::answer_read(alloc, row.rest, answer),
-            "run" => programs::answer_run(alloc, row.rest, answer),
-            "report" => programs::answer_report(alloc, row.rest, answer),
-            _ => row.refuse(),
+            call => answer_report(alloc, call, row, answer),
         }
     }
 }

@@ -40,6 +40,28 @@ fn tell_outcome(phase: Result<Phase, PhaseFault>, answer: &mut Answer) {
     }
 }
 
+fn tell_same(one: Phase, other: Phase, answer: &mut Answer) {
+    let same = one == other;
+    write!(answer, "Same({same})");
+}
+
+fn tell_eighth(eighth: Option<u8>, answer: &mut Answer) {
+    write!(answer, "Eighth({eighth:?})");
+}
+
+/// The answer of a call on one phase.
+fn answer_on(call: &str, phase: Phase, row: &mut Row<'_>, answer: &mut Answer) {
+    match call {
+        "same" => tell_same(phase, phase_in(row), answer),
+        "sum" => tell_outcome(phase.add(phase_in(row)), answer),
+        "opposite" => tell(phase.neg(), answer),
+        "product" => tell_outcome(phase.mul_whole(factor_in(row)), answer),
+        "quotient" => tell_outcome(phase.div_exact(factor_in(row)), answer),
+        "eighth" => tell_eighth(phase.eighth(), answer),
+        _ => row.refuse(),
+    }
+}
+
 /// `phase CALL NUMBER ..`, where each phase is written in units.
 pub fn answer_phase(row: &mut Row<'_>, answer: &mut Answer) {
     match row.word() {
@@ -47,12 +69,6 @@ pub fn answer_phase(row: &mut Row<'_>, answer: &mut Answer) {
         "pi" => tell(Phase::pi(), answer),
         "tau" => tell(Phase::tau(), answer),
         "units" => tell_outcome(Phase::from_units(row.i64()), answer),
-        "same" => write!(answer, "Same({})", phase_in(row) == phase_in(row)),
-        "sum" => tell_outcome(phase_in(row).add(phase_in(row)), answer),
-        "opposite" => tell(phase_in(row).neg(), answer),
-        "product" => tell_outcome(phase_in(row).mul_whole(factor_in(row)), answer),
-        "quotient" => tell_outcome(phase_in(row).div_exact(factor_in(row)), answer),
-        "eighth" => write!(answer, "Eighth({:?})", phase_in(row).eighth()),
-        _ => row.refuse(),
+        call => answer_on(call, phase_in(row), row, answer),
     }
 }

@@ -17,11 +17,12 @@ fn program(alloc: Global, written: &str, answer: &mut Answer) -> Option<Program>
     ensures { IfSome result IsWithinLimits }
 {
     let text = answer.given(unescaped(alloc, written))?;
-    let program = answer.given(read(alloc, text.as_bytes()))?;
-    if program.is_none() {
-        answer.push_str("none");
+    match read(alloc, text.as_bytes()) {
+        Ok(Some(program)) => return Some(program),
+        Ok(None) => answer.push_str("none"),
+        Err(_) => answer.lose(),
     }
-    program
+    None
 }
 
 /// `read TEXT`: the sizes of the registers, and the statements.

@@ -76,11 +76,11 @@ fn scale_in(row: &mut Row<'_>) -> Scale
 fn norm(a: i128, b: i128) -> Option<(i128, i128)>
     ensures { IfSome result (λ norm. IsGood norm.0 norm.1) }
 {
-    let second = 2i128.checked_mul(b.checked_mul(b)?)?;
-    if a < 0 || second > a.checked_mul(a)? {
-        return None;
+    let (first, second) = (a.checked_mul(a)?, b.checked_mul(b)?);
+    match 2i128.checked_mul(second) {
+        Some(second) if 0 <= a && second <= first => Some((a, b)),
+        _ => None,
     }
-    Some((a, b))
 }
 
 fn tell(weight: Result<Weight, NumberFault>, answer: &mut Answer) {

@@ -22,26 +22,26 @@ use std::process::ExitCode;
 #[derive(Drop)]
 struct TextCases;
 
+/// The answer of a call on shelves and sinks, or on trees.
+fn answer_values(alloc: Global, call: &str, row: &mut Row<'_>, answer: &mut Answer) {
+    match call {
+        "fault" => outside::fault(row, answer),
+        "shelf" => outside::shelf(alloc, row, answer),
+        "sure_shelf" => outside::sure_shelf(alloc, row.rest, answer),
+        "sink" => outside::sink(alloc, row, answer),
+        "sure_sink" => outside::sure_sink(alloc, answer),
+        _ => trees::answer_trees(alloc, call, row, answer),
+    }
+}
+
 impl Cases for TextCases {
     fn answer(&mut self, alloc: Global, row: &mut Row<'_>, answer: &mut Answer) {
         match row.word() {
-            "fault" => outside::fault(row, answer),
-            "shelf" => outside::shelf(alloc, row, answer),
-            "sure_shelf" => outside::sure_shelf(alloc, row.rest, answer),
-            "sink" => outside::sink(alloc, row, answer),
-            "sure_sink" => outside::sure_sink(alloc, answer),
-            "tree" => trees::tree(alloc, answer),
-            "labels" => trees::labels(alloc, row, answer),
-            "lengths" => trees::lengths(alloc, row.rest, answer),
-            "order" => trees::order(row, answer),
-            "features" => trees::features(answer),
-            "causes" => trees::causes(answer),
-            "refusals" => trees::refusals(alloc, row, answer),
             "lex" => tokens::lexed(alloc, row.rest, answer),
             "first_fault" => tokens::fault(alloc, row.rest, answer),
             "terminals" => tokens::terminals(alloc, row.rest, answer),
             "replaced" => tokens::replaced(alloc, row.rest, answer),
-            _ => row.refuse(),
+            call => answer_values(alloc, call, row, answer),
         }
     }
 }

@@ -11,14 +11,19 @@ use qt_outside::sure_sink::SureSink;
 use qt_rows::answer::Answer;
 use qt_rows::row::Row;
 use std::alloc::Global;
+use std::fmt::Display;
+
+fn fault_told<F: Display + Drop>(fault: F, answer: &mut Answer) {
+    write!(answer, "{fault}");
+}
 
 /// `fault fetch failed` and the like: the text of a fault.
 pub fn fault(row: &mut Row<'_>, answer: &mut Answer) {
     match row.rest {
-        "fetch failed" => write!(answer, "{}", FetchFault::Failed),
-        "fetch memory" => write!(answer, "{}", FetchFault::OutOfMemory),
-        "put failed" => write!(answer, "{}", PutFault::Failed),
-        "put memory" => write!(answer, "{}", PutFault::OutOfMemory),
+        "fetch failed" => fault_told(FetchFault::Failed, answer),
+        "fetch memory" => fault_told(FetchFault::OutOfMemory, answer),
+        "put failed" => fault_told(PutFault::Failed, answer),
+        "put memory" => fault_told(PutFault::OutOfMemory, answer),
         _ => row.refuse(),
     }
 }

@@ -65,29 +65,33 @@ fn place(line: u32, column: u32) -> Place {
     }
 }
 
+/// A list of one item.
+fn single<T: Drop>(alloc: Global, item: T) -> Result<Items<T>, OutOfMemory> {
+    let mut items = Items::new(alloc);
+    items.push(item)?;
+    Ok(items)
+}
+
 /// `!b`
 fn condition(alloc: Global) -> Result<Expr, OutOfMemory> {
     let name = Label::new(alloc, "b")?;
-    let operand = Boxed::new(
-        alloc,
-        Expr::Name {
-            name,
-            brackets: Items::new(alloc),
-        },
-    )?;
+    let brackets = Items::new(alloc);
+    let operand = Boxed::new(alloc, Expr::Name { name, brackets })?;
     Ok(Expr::Unary {
         operator: PrefixOperator::Not,
         operand,
     })
 }
 
+/// `q`
+fn operands(alloc: Global) -> Result<Items<Operand>, OutOfMemory> {
+    let name = Label::new(alloc, "q")?;
+    single(alloc, Operand { name, index: None })
+}
+
 /// `x q;`
-fn gate_call(alloc: Global) -> Result<StatementForm, OutOfMemory> {
-    let mut operands = Items::new(alloc);
-    operands.push(Operand {
-        name: Label::new(alloc, "q")?,
-        index: None,
-    })?;
+fn body(alloc: Global) -> Result<Items<Statement>, OutOfMemory> {
+    let operands = operands(alloc)?;
     let name = Label::new(alloc, "x")?;
     let call = GateCall {
         modifiers: Items::new(alloc),
@@ -97,32 +101,33 @@ fn gate_call(alloc: Global) -> Result<StatementForm, OutOfMemory> {
         },
         operands,
     };
-    Ok(StatementForm::Gate { call })
+    single(
+        alloc,
+        Statement {
+            place: place(2, 3),
+            form: StatementForm::Gate { call },
+        },
+    )
 }
 
 /// `if (!b) x q;`
-fn conditional(alloc: Global) -> Result<StatementForm, OutOfMemory> {
-    let mut body = Items::new(alloc);
-    body.push(Statement {
-        place: place(2, 3),
-        form: gate_call(alloc)?,
-    })?;
-    Ok(StatementForm::If {
-        condition: condition(alloc)?,
-        body,
-        otherwise: None,
-    })
+fn conditional(alloc: Global) -> Result<Items<Item>, OutOfMemory> {
+    let body = body(alloc)?;
+    let condition = condition(alloc)?;
+    let statement = Statement {
+        place: place(2, 1),
+        form: StatementForm::If {
+            condition,
+            body,
+            otherwise: None,
+        },
+    };
+    single(alloc, Item::Statement { statement })
 }
 
 /// A program of that statement alone.
 fn program(alloc: Global) -> Result<Program, OutOfMemory> {
-    let mut items = Items::new(alloc);
-    items.push(Item::Statement {
-        statement: Statement {
-            place: place(2, 1),
-            form: conditional(alloc)?,
-        },
-    })?;
+    let items = conditional(alloc)?;
     Ok(Program {
         versions: Items::new(alloc),
         items,
@@ -189,7 +194,7 @@ fn program_told(program: &Program, answer: &mut Answer) {
 }
 
 /// `tree`: the program of one statement, told again.
-pub fn tree(alloc: Global, answer: &mut Answer) {
+fn tree(alloc: Global, answer: &mut Answer) {
     match program(alloc) {
         Ok(program) => program_told(&program, answer),
         Err(_) => answer.lose(),
@@ -212,7 +217,7 @@ fn setting_told(setting: &Setting, other: &Label, answer: &mut Answer) {
 
 /// `labels NAME OTHER`: the copy of a name, whether a setting of the name and its copy has both alike, and whether the name is the
 /// other.
-pub fn labels(alloc: Global, row: &mut Row<'_>, answer: &mut Answer) {
+fn labels(alloc: Global, row: &mut Row<'_>, answer: &mut Answer) {
     let (name, other) = (row.word(), row.word());
     if let Some(setting) = answer.given(setting(alloc, name)) {
         if let Some(other) = answer.given(Label::new(alloc, other)) {
@@ -233,7 +238,7 @@ fn numbers_in(alloc: Global, written: &str, answer: &mut Answer) -> Vec<u32> {
 }
 
 /// `lengths NUMBERS`: the numbers of a copy.
-pub fn lengths(alloc: Global, written: &str, answer: &mut Answer) {
+fn lengths(alloc: Global, written: &str, answer: &mut Answer) {
     let lengths = Lengths::from_vec(numbers_in(alloc, written, answer));
     if let Some(copy) = answer.given(lengths.copied(alloc)) {
         for number in copy.items() {
@@ -248,14 +253,14 @@ fn place_in(row: &mut Row<'_>) -> Place {
 }
 
 /// `order FILE LINE COLUMN FILE LINE COLUMN`: whether the one place is before the other, and the other before the one.
-pub fn order(row: &mut Row<'_>, answer: &mut Answer) {
+fn order(row: &mut Row<'_>, answer: &mut Answer) {
     let (one, other) = (place_in(row), place_in(row));
     let (before, behind) = (one < other, other < one);
     write!(answer, "{before};{behind}");
 }
 
 /// `features`: each feature and the word that tells it.
-pub fn features(answer: &mut Answer) {
+fn features(answer: &mut Answer) {
     for feature in FEATURES {
         let word = feature.text();
         write!(answer, "{feature:?} {word};");
@@ -263,7 +268,7 @@ pub fn features(answer: &mut Answer) {
 }
 
 /// `causes`: each cause and the word that tells it.
-pub fn causes(answer: &mut Answer) {
+fn causes(answer: &mut Answer) {
     for cause in CAUSES {
         let word = cause.word();
         write!(answer, "{cause:?} {word};");
@@ -271,24 +276,43 @@ pub fn causes(answer: &mut Answer) {
 }
 
 /// A refusal of that name.
-fn refused(alloc: Global, name: &str) -> Result<TextRefusal, OutOfMemory> {
-    Ok(TextRefusal::E8(place(3, 4), Label::new(alloc, name)?))
+fn refused(alloc: Global, name: &str) -> Result<Boxed<TextRefusal>, OutOfMemory> {
+    let name = Label::new(alloc, name)?;
+    Ok(Boxed::new(alloc, TextRefusal::E8(place(3, 4), name))?)
+}
+
+fn is_same(one: &TextRefusal, other: TextRefusal) -> bool {
+    *one == other
 }
 
 fn refusals_told(one: &TextRefusal, other: &TextRefusal, answer: &mut Answer) {
     let same = *one == *other;
-    let typed = *one == TextRefusal::E10(place(3, 4));
-    let want = *one == TextRefusal::from(OutOfMemory);
+    let typed = is_same(one, TextRefusal::E10(place(3, 4)));
+    let want = is_same(one, TextRefusal::from(OutOfMemory));
     write!(answer, "{same};{typed};{want}");
 }
 
 /// `refusals NAME OTHER`: whether the refusals of two names are the same, and whether that of the one is a refusal of types, or one for
 /// want of memory.
-pub fn refusals(alloc: Global, row: &mut Row<'_>, answer: &mut Answer) {
+fn refusals(alloc: Global, row: &mut Row<'_>, answer: &mut Answer) {
     let (name, other) = (row.word(), row.word());
     if let Some(one) = answer.given(refused(alloc, name)) {
         if let Some(other) = answer.given(refused(alloc, other)) {
-            refusals_told(&one, &other, answer);
+            refusals_told(one.get(), other.get(), answer);
         }
+    }
+}
+
+/// The answer of a call on trees, labels, places or refusals.
+pub fn answer_trees(alloc: Global, call: &str, row: &mut Row<'_>, answer: &mut Answer) {
+    match call {
+        "tree" => tree(alloc, answer),
+        "labels" => labels(alloc, row, answer),
+        "lengths" => lengths(alloc, row.rest, answer),
+        "order" => order(row, answer),
+        "features" => features(answer),
+        "causes" => causes(answer),
+        "refusals" => refusals(alloc, row, answer),
+        _ => row.refuse(),
     }
 }
