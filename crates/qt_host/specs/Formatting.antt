@@ -14,4 +14,5 @@ FormatsAgain output = (texts others : Texts) (name other : List ℕ) → Said (c
 
 -- the canonical text of the program of a text is that of no other program, but for places
 abbrev pub KeepsTheProgram : Type 0
-KeepsTheProgram = (text : List ℕ) (file other : ℕ) (p q : Program) → IsTextOfProgram file text p → IsTextOfProgram other (canonical p) q → SameButPlaces p q
+KeepsTheProgram = (text : List ℕ) (file other : ℕ) (p q : Program)
+    → IsTextOfProgram file text p → IsTextOfProgram other (canonical p) q → SameButPlaces p q

@@ -46,7 +46,8 @@ pub data Said (words : List (List ℕ)) (texts : Texts) : Answer → Type 0 wher
       → IsRefused name 0 (text_of texts name) refusal → Said words texts (refused 1 (refusal_line (name ∷ []) refusal))
   -- the text is that of a program, but of none of the first form
   other_form : (name : List ℕ) (source : Source) → Asks words (codes "run") name
-      → IsTextOfProgram 0 (text_of texts name) source → ((p : Program) → ¬ IsFirstFormText p (text_of texts name)) → Said words texts (refused 1 (form_line name))
+      → IsTextOfProgram 0 (text_of texts name) source → ((p : Program) → ¬ IsFirstFormText p (text_of texts name))
+      → Said words texts (refused 1 (form_line name))
   -- the text is that of a program of the first form, and these chances are its distribution
   report_of : (name : List ℕ) (source : Source) (p : Program) (chances : List Chance) → Asks words (codes "run") name
       → IsTextOfProgram 0 (text_of texts name) source → IsFirstFormText p (text_of texts name) → IsDistribution (leaves_of p) chances

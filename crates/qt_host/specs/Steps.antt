@@ -45,7 +45,8 @@ HasNoSource name text _ = ⊥
 -- why a text has no answer: it is that of no program, or of none of the first form, or memory ran out
 abbrev pub HasNoAnswer : Mode → List ℕ → List ℕ → HostRefusal → Type 0
 HasNoAnswer mode name text (Text reason) = IsRefused name 0 text reason
-HasNoAnswer Run name text (Early of) = (of ≡ name) × ((source : Source) × IsTextOfProgram 0 text source) × ((p : Program) → ¬ IsFirstFormText p text)
+HasNoAnswer Run name text (Early of) =
+    (of ≡ name) × ((source : Source) × IsTextOfProgram 0 text source) × ((p : Program) → ¬ IsFirstFormText p text)
 HasNoAnswer Format name text (Early of) = ⊥
 HasNoAnswer mode name text (Shelf of) = ⊥
 HasNoAnswer mode name text OutOfMemory = Unit {0}

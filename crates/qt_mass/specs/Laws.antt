@@ -18,7 +18,8 @@ CxKeepsMass = (s : State) (c t : ℕ) → c < s.qubits → t < s.qubits → c �
 
 -- what the outcomes 0 and 1 of a qubit leave has the mass of the state, together
 abbrev pub OutcomesShareMass : Type 0
-OutcomesShareMass = (s : State) (q : ℕ) → q < s.qubits → HasAllEntries s → plus_real (mass (project q false s)) (mass (project q true s)) ≡ mass s
+OutcomesShareMass = (s : State) (q : ℕ)
+    → q < s.qubits → HasAllEntries s → plus_real (mass (project q false s)) (mass (project q true s)) ≡ mass s
 
 -- the mass is 0 where all amplitudes are, and nowhere else
 abbrev pub OnlyZeroIsMassless : Type 0

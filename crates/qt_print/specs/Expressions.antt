@@ -10,7 +10,8 @@ use Rattle.qt_tree.specs.declared.expression.Expr.TheOpen.{Expr-F, Index-F, Scal
 use Rattle.qt_tree.specs.declared.expression.Expr.TheFolds.{fold-Expr, fold-Index, fold-Scalar, fold-Range}
 use Rattle.qt_lexemes.specs.declared.role.Role.TheVariants as r
 use Rattle.qt_lexemes.specs.Operators.{operator_text, sign_text, truth_text}
-use Rattle.qt_lexemes.specs.Lexemes.{Lexeme, lexeme, name, keyword, integer, bits, operator, comma, colon, parenthesized, bracketed, braced, separated, joined, optional, itself}
+use Rattle.qt_lexemes.specs.Lexemes.{Lexeme, lexeme, name, keyword, integer, bits, operator, comma, colon}
+use Rattle.qt_lexemes.specs.Lexemes.{parenthesized, bracketed, braced, separated, joined, optional, itself}
 
 -- the indexes of one pair of brackets
 abbrev pub indexed : List (List Lexeme) → List Lexeme

@@ -24,7 +24,8 @@ put_lines sheet before (line ∷ lines) = put_lines (put_line sheet (before ++ m
 
 -- a body behind a head, up to its `}`
 abbrev pub put_body : Sheet → List ℕ → List (List Line) → Sheet
-put_body sheet before parts = put_on (begun (put_lines (ended (put_on sheet body_start)) (before ++ codes "  ") (all_lines parts)) before) body_end
+put_body sheet before parts =
+    put_on (begun (put_lines (ended (put_on sheet body_start)) (before ++ codes "  ") (all_lines parts)) before) body_end
 
 -- a head and its body, on a line that is begun
 abbrev pub put_block : Sheet → List ℕ → List Lexeme → List (List Line) → Sheet

@@ -23,7 +23,8 @@ use Rattle.qt_tree.specs.declared.program.Definition.{Definition}
 use Rattle.qt_tree.specs.declared.program.Parameter.{Parameter}
 use Rattle.qt_tree.specs.declared.program.Parameter.TheVariants as parameter
 use Rattle.qt_lexemes.specs.declared.role.Role.TheVariants as r
-use Rattle.qt_lexemes.specs.Lexemes.{Lexeme, lexeme, name, keyword, integer, quotation, operator, comma, each_behind, parenthesized, bracketed, braced, separated, optional}
+use Rattle.qt_lexemes.specs.Lexemes.{Lexeme, lexeme, name, keyword, integer, quotation, operator, comma}
+use Rattle.qt_lexemes.specs.Lexemes.{each_behind, parenthesized, bracketed, braced, separated, optional}
 use Rattle.qt_print.specs.Expressions.{expr_lexemes, scalar_lexemes, size_lexemes}
 use Rattle.qt_print.specs.Statements.{Line, sentence, block, all_lines, call_lexemes, register_lexemes, statement_lines}
 

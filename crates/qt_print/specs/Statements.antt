@@ -21,9 +21,11 @@ use Rattle.qt_tree.specs.declared.statement.StatementForm.TheOpen as s
 use Rattle.qt_tree.specs.declared.statement.StatementForm.TheOpen.{StatementForm-F, Statement-F}
 use Rattle.qt_tree.specs.declared.statement.StatementForm.TheFolds.{fold-StatementForm, fold-Statement}
 use Rattle.qt_lexemes.specs.declared.role.Role.TheVariants as r
-use Rattle.qt_lexemes.specs.Lexemes.{Lexeme, lexeme, name, keyword, operator, comma, semicolon, parenthesized, bracketed, braced, separated, joined, optional}
+use Rattle.qt_lexemes.specs.Lexemes.{Lexeme, lexeme, name, keyword, operator, comma, semicolon}
+use Rattle.qt_lexemes.specs.Lexemes.{parenthesized, bracketed, braced, separated, joined, optional}
 use Rattle.qt_lexemes.specs.Operators.{compound_text}
-use Rattle.qt_print.specs.Expressions.{expr_lexemes, index_lexemes, scalar_lexemes, range_lexemes, list_lexemes, size_lexemes, brackets_lexemes}
+use Rattle.qt_print.specs.Expressions.{expr_lexemes, index_lexemes, scalar_lexemes, range_lexemes}
+use Rattle.qt_print.specs.Expressions.{list_lexemes, size_lexemes, brackets_lexemes}
 
 -- a line: in how many bodies of what is printed it stands, and its lexemes
 pub record Line : Type 0 where

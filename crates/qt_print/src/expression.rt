@@ -152,7 +152,8 @@ fn put_bracket(page: &mut Page, indexes: &[Index]) -> Result<(), OutOfMemory>
 /// Indexes with commas between.
 #[cycle(expression)]
 fn put_indexes(page: &mut Page, indexes: &[Index]) -> Result<(), OutOfMemory>
-    ensures { OnOk result (sheet_of page.new ≡ puts (sheet_of page.old) (lexemes.separated lexemes.comma (map spec.index_lexemes indexes.now))) }
+    ensures { OnOk result
+        (sheet_of page.new ≡ puts (sheet_of page.old) (lexemes.separated lexemes.comma (map spec.index_lexemes indexes.now))) }
 {
     let mut first = true;
     for index in indexes {

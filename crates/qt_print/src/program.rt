@@ -40,7 +40,8 @@ pub fn print(alloc: Global, program: &Program) -> Result<String, OutOfMemory>
 
 /// The versions of a program. A text has one at most.
 fn put_versions(page: &mut Page, versions: &[Version]) -> Result<(), OutOfMemory>
-    ensures { OnOk result (sheet_of page.new ≡ put_lines (sheet_of page.old) [] (statements.all_lines (map spec.version_lines versions.now))) }
+    ensures { OnOk result
+        (sheet_of page.new ≡ put_lines (sheet_of page.old) [] (statements.all_lines (map spec.version_lines versions.now))) }
 {
     for version in versions {
         put_version(page, version)?;
@@ -133,7 +134,8 @@ fn put_qubit(page: &mut Page, size: &Option<Expr>, name: &Label) -> Result<(), O
 /// The declaration of a qubit or a register of qubits.
 #[tactic(auto, using(crate::proofs::Lines::sentence_put, crate::proofs::Puts::puts_both))]
 fn put_qubit_item(page: &mut Page, size: &Option<Expr>, name: &Label) -> Result<(), OutOfMemory>
-    ensures { OnOk result (sheet_of page.new ≡ put_lines (sheet_of page.old) [] (statements.sentence (spec.qubit_lexemes size.now name.now))) }
+    ensures { OnOk result
+        (sheet_of page.new ≡ put_lines (sheet_of page.old) [] (statements.sentence (spec.qubit_lexemes size.now name.now))) }
 {
     page.begin("")?;
     put_qubit(page, size, name)?;
@@ -183,7 +185,9 @@ fn put_shape(page: &mut Page, scalar: &Scalar, dimensions: &[Expr]) -> Result<()
 
 /// The dimensions of an array, each behind a comma.
 fn put_dimensions(page: &mut Page, dimensions: &[Expr]) -> Result<(), OutOfMemory>
-    ensures { OnOk result (sheet_of page.new ≡ puts (sheet_of page.old) (lexemes.each_behind lexemes.comma (map expressions.expr_lexemes dimensions.now))) }
+    ensures { OnOk result
+        (sheet_of page.new
+        ≡ puts (sheet_of page.old) (lexemes.each_behind lexemes.comma (map expressions.expr_lexemes dimensions.now))) }
 {
     for dimension in dimensions {
         page.put(Role::Comma, ",")?;
@@ -220,7 +224,8 @@ fn put_values_list(page: &mut Page, items: &[ListItem]) -> Result<(), OutOfMemor
 /// Values with commas between.
 #[cycle(list)]
 fn put_list_items(page: &mut Page, items: &[ListItem]) -> Result<(), OutOfMemory>
-    ensures { OnOk result (sheet_of page.new ≡ puts (sheet_of page.old) (lexemes.separated lexemes.comma (map spec.item_lexemes items.now))) }
+    ensures { OnOk result
+        (sheet_of page.new ≡ puts (sheet_of page.old) (lexemes.separated lexemes.comma (map spec.item_lexemes items.now))) }
 {
     let mut first = true;
     for item in items {
@@ -315,7 +320,9 @@ fn put_parameter_names(page: &mut Page, names: &Option<Items<Label>>) -> Result<
 
 /// The statements of a gate's body.
 fn put_gate_statements(page: &mut Page, all: &[GateStatement]) -> Result<(), OutOfMemory>
-    ensures { OnOk result (sheet_of page.new ≡ put_lines (sheet_of page.old) (codes "  ") (statements.all_lines (map spec.gate_statement_lines all.now))) }
+    ensures { OnOk result
+        (sheet_of page.new
+        ≡ put_lines (sheet_of page.old) (codes "  ") (statements.all_lines (map spec.gate_statement_lines all.now))) }
 {
     for statement in all {
         put_gate_statement(page, statement)?;

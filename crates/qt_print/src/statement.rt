@@ -545,7 +545,10 @@ fn put_if(
     body: &[Statement],
     otherwise: &Option<Items<Statement>>,
 ) -> Result<(), OutOfMemory>
-    ensures { OnOk result (sheet_of page.new ≡ pages.put_if (sheet_of page.old) margin.now (spec.condition_lexemes (codes "if") condition.now) (map spec.statement_lines body.now) (pages.each_lines otherwise.now)) }
+    ensures { OnOk result
+        (sheet_of page.new
+        ≡ pages.put_if (sheet_of page.old) margin.now (spec.condition_lexemes (codes "if") condition.now)
+        (map spec.statement_lines body.now) (pages.each_lines otherwise.now)) }
 {
     put_condition(page, "if", condition)?;
     put_body(page, margin, body)?;
@@ -579,7 +582,10 @@ fn put_while(
     condition: &Expr,
     body: &[Statement],
 ) -> Result<(), OutOfMemory>
-    ensures { OnOk result (sheet_of page.new ≡ pages.put_block (sheet_of page.old) margin.now (spec.condition_lexemes (codes "while") condition.now) (map spec.statement_lines body.now)) }
+    ensures { OnOk result
+        (sheet_of page.new
+        ≡ pages.put_block (sheet_of page.old) margin.now (spec.condition_lexemes (codes "while") condition.now)
+        (map spec.statement_lines body.now)) }
 {
     put_condition(page, "while", condition)?;
     put_body(page, margin, body)?;
@@ -596,7 +602,10 @@ fn put_for(
     values: &Sequence,
     body: &[Statement],
 ) -> Result<(), OutOfMemory>
-    ensures { OnOk result (sheet_of page.new ≡ pages.put_block (sheet_of page.old) margin.now (spec.for_lexemes scalar.now name.now values.now) (map spec.statement_lines body.now)) }
+    ensures { OnOk result
+        (sheet_of page.new
+        ≡ pages.put_block (sheet_of page.old) margin.now (spec.for_lexemes scalar.now name.now values.now)
+        (map spec.statement_lines body.now)) }
 {
     put_for_head(page, scalar, name, values)?;
     put_body(page, margin, body)?;
@@ -617,7 +626,8 @@ pub(crate) fn put_body(page: &mut Page, margin: &str, body: &[Statement]) -> Res
 /// Statements whose lines have at least this margin.
 #[cycle(statement)]
 fn put_statements(page: &mut Page, margin: &str, all: &[Statement]) -> Result<(), OutOfMemory>
-    ensures { OnOk result (sheet_of page.new ≡ put_lines (sheet_of page.old) margin.now (spec.all_lines (map spec.statement_lines all.now))) }
+    ensures { OnOk result
+        (sheet_of page.new ≡ put_lines (sheet_of page.old) margin.now (spec.all_lines (map spec.statement_lines all.now))) }
 {
     for statement in all {
         put_statement(page, margin, statement)?;

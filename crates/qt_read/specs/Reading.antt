@@ -33,7 +33,8 @@ refusal_of p.OutOfMemory = r.OutOfMemory
 -- the tokens of a text spell no program within the limits, and this refusal tells the token at fault: it is too deep, or it is the
 -- stopper, of a feature that the profile leaves out or of none
 unfoldable pub IsStopped : List ℕ → List Token → TextRefusal → Type 0
-IsStopped text tokens refusal = (why : ParseRefusal) × (why ≢ p.OutOfMemory) × Refused (terminals text tokens) why × (refusal ≡ refusal_of why)
+IsStopped text tokens refusal =
+    (why : ParseRefusal) × (why ≢ p.OutOfMemory) × Refused (terminals text tokens) why × (refusal ≡ refusal_of why)
 
 -- a text that isn't too long and is UTF-8 gives these tokens
 pub record HasTokens (file : ℕ) (text : List ℕ) (tokens : List Token) : Type 0 where
@@ -52,7 +53,8 @@ pub data IsRefused (name : List ℕ) (file : ℕ) (text : List ℕ) : TextRefusa
   long : most_bytes < length text → IsRefused name file text (r.E2 name)
   no_utf8 : (count : ℕ) → length text ≤ most_bytes → ¬ IsUtf8 text → IsValidUpTo text count → IsRefused name file text (r.E1 name count)
   no_token : (place : Place) → length text ≤ most_bytes → IsUtf8 text → FailsAt text file place → IsRefused name file text (r.E3 place)
-  stopped : (tokens : List Token) (refusal : TextRefusal) → HasTokens file text tokens → IsStopped text tokens refusal → IsRefused name file text refusal
+  stopped : (tokens : List Token) (refusal : TextRefusal)
+      → HasTokens file text tokens → IsStopped text tokens refusal → IsRefused name file text refusal
 
 -- what reading a text answers, but for want of memory
 abbrev pub IsReason : List ℕ → ℕ → List ℕ → TextRefusal → Type 0

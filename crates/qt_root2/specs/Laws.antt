@@ -1,5 +1,6 @@
 -- Laws of the numbers a + b√2, and of those among them that are good: not below 0, and neither is a − b√2.
--- Squared sizes of amplitudes are good, and probabilities are sums and products of them (OpenQASM 3.0 live specification, "Quantum measurement and reset"; Cross et al. 2022).
+-- Squared sizes of amplitudes are good, and probabilities are sums and products of them (OpenQASM 3.0 live specification, "Quantum
+-- measurement and reset"; Cross et al. 2022).
 use Rattle.std.specs.Prelude.{◌≡◌, ℤ, pos, ◌+ℤ◌, ◌≤ℤ◌, unsigned_abs}
 use Rattle.qt_root2.specs.declared.scale.Scale.{Scale}
 use Rattle.qt_root2.specs.Scaling.{IsScaled}

@@ -1,5 +1,6 @@
 -- What a scale stands for, and when a number is another one scaled.
--- A scale is |p|² for the factor p that is taken out of a state vector (OpenQASM 3.0 live specification, "Quantum measurement and reset"; Cross et al. 2022).
+-- A scale is |p|² for the factor p that is taken out of a state vector (OpenQASM 3.0 live specification, "Quantum measurement and
+-- reset"; Cross et al. 2022).
 use Rattle.std.specs.Prelude.{◌≡◌, ℕ, suc, ℤ, pos, negsuc}
 use Rattle.qt_root2.specs.declared.scale.Scale.{Scale}
 use Rattle.qt_root2.specs.Real.{lifted}

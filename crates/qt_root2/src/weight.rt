@@ -41,7 +41,8 @@ impl Weight {
         }
     }
 
-    /// It times `2^twos · ε^(2·units) · (2 − √2)^primes`. The fault comes where that is not whole over `2^96`, or has an `a` of `2^100` or more.
+    /// It times `2^twos · ε^(2·units) · (2 − √2)^primes`. The fault comes where that is not whole over `2^96`, or has an `a` of
+    /// `2^100` or more.
     pub fn scaled(self, by: Scale) -> Result<Weight, NumberFault>
         requires twos { unsigned_abs by.twos ≤ 1024 }
         requires units { unsigned_abs by.units ≤ 512 }

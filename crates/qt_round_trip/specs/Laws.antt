@@ -33,13 +33,15 @@ RoundTrip = (text : List ℕ) (file : ℕ) (tokens : List Token) (p : Program) �
 
 -- no character of the canonical text is refused
 abbrev pub LexesAgain : Type 0
-LexesAgain = (text : List ℕ) (file : ℕ) (tokens : List Token) (p : Program) → ReadsAs text file tokens p → (other : ℕ) (place : Place) → FailsAt (canonical p) other place → ⊥
+LexesAgain = (text : List ℕ) (file : ℕ) (tokens : List Token) (p : Program) → ReadsAs text file tokens p
+    → (other : ℕ) (place : Place) → FailsAt (canonical p) other place → ⊥
 
 -- of the tokens of the canonical text each right answer of a parser, but for want of memory, is the same program but for places
 abbrev pub ParsesAgain : Type 0
 ParsesAgain = (text : List ℕ) (file : ℕ) (tokens : List Token) (p : Program) → ReadsAs text file tokens p
     → (other : ℕ) (written : List Token) → GivesTokens (canonical p) other written
-    → (answer : Result Program Refusal) → answer ≢ Err OutOfMemory → Parses (stream (terminals (canonical p) written)) language_limits answer
+    → (answer : Result Program Refusal) → answer ≢ Err OutOfMemory
+    → Parses (stream (terminals (canonical p) written)) language_limits answer
     → (q : Program) × (answer ≡ Ok q) × SameButPlaces p q × (canonical q ≡ canonical p)
 
 -- whatever program the canonical text is that of, it is the same but for places
@@ -49,11 +51,13 @@ KeepsTheTree = (text : List ℕ) (file : ℕ) (tokens : List Token) (p : Program
 
 -- the canonical text of the program of a text has at most 500 bytes for each byte of the text
 abbrev pub IsBounded : Type 0
-IsBounded = (text : List ℕ) (file : ℕ) (tokens : List Token) (p : Program) → ReadsAs text file tokens p → length (canonical p) ≤ 500 * length text
+IsBounded = (text : List ℕ) (file : ℕ) (tokens : List Token) (p : Program)
+    → ReadsAs text file tokens p → length (canonical p) ≤ 500 * length text
 
 -- so it has at most 2^31 bytes, which a lexer takes, where the text has at most 2^20
 abbrev pub CanBeRead : Type 0
-CanBeRead = (text : List ℕ) (file : ℕ) (tokens : List Token) (p : Program) → ReadsAs text file tokens p → length text ≤ 2 ^ 20 → length (canonical p) ≤ 2 ^ 31
+CanBeRead = (text : List ℕ) (file : ℕ) (tokens : List Token) (p : Program)
+    → ReadsAs text file tokens p → length text ≤ 2 ^ 20 → length (canonical p) ≤ 2 ^ 31
 
 -- programs that are the same but for places have the same canonical text
 abbrev pub SameText : Type 0

@@ -33,10 +33,23 @@ bare_item (i.Input place scalar name) = i.Input origin scalar name
 bare_item (i.Output place scalar name) = i.Output origin scalar name
 bare_item (i.Qubit place size name) = i.Qubit origin size name
 bare_item (i.QubitRegister place name size) = i.QubitRegister origin name size
-bare_item (i.Array array) = i.Array (record { place = origin; scalar = array.scalar; dimensions = array.dimensions; name = array.name; value = array.value })
-bare_item (i.Gate gate) = i.Gate (record { place = origin; name = gate.name; parameters = gate.parameters; qubits = gate.qubits; body = map bare_gate_statement gate.body })
+bare_item (i.Array array) =
+    i.Array (record { place = origin; scalar = array.scalar; dimensions = array.dimensions; name = array.name; value = array.value })
+bare_item (i.Gate gate) = i.Gate (record {
+  place = origin;
+  name = gate.name;
+  parameters = gate.parameters;
+  qubits = gate.qubits;
+  body = map bare_gate_statement gate.body;
+})
 bare_item (i.Definition definition) =
-    i.Definition (record { place = origin; name = definition.name; parameters = definition.parameters; result = definition.result; body = map bare_statement definition.body })
+    i.Definition (record {
+      place = origin;
+      name = definition.name;
+      parameters = definition.parameters;
+      result = definition.result;
+      body = map bare_statement definition.body;
+    })
 bare_item (i.Statement statement) = i.Statement (bare_statement statement)
 
 abbrev pub bare_version : Version → Version

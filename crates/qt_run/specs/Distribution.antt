@@ -60,4 +60,5 @@ TotalIsOne p = (chances : List Chance) → IsDistribution (leaves_of p) chances 
 
 -- the same leaves have one distribution
 abbrev pub OneDistribution : Type 0
-OneDistribution = (leaves : List Point) (first second : List Chance) → IsDistribution leaves first → IsDistribution leaves second → first ≡ second
+OneDistribution = (leaves : List Point) (first second : List Chance)
+    → IsDistribution leaves first → IsDistribution leaves second → first ≡ second

@@ -43,7 +43,8 @@ unless false run p = run p
 -- one outcome of a measurement, where its projection isn't zero
 abbrev pub outcome : ℕ → ℕ → Bool → Run
 outcome qubit place bit p =
-    unless (vanishes (project qubit bit p.state)) (λ q. q ∷ []) (record { slots = stored place bit p.slots; state = project qubit bit p.state })
+    unless (vanishes (project qubit bit p.state)) (λ q. q ∷ [])
+    (record { slots = stored place bit p.slots; state = project qubit bit p.state })
 
 -- the points after one statement
 abbrev pub statement_run : Statement → Run
