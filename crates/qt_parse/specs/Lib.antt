@@ -1,2 +1,3 @@
+pub mod Growth
 pub mod Parser
 pub mod Promise

@@ -42,6 +42,10 @@ applied {A} {B} x out = and_then {A = A → B} {B = B} out (λ tail j. Ok (tail 
 abbrev pub modifier_with_at : Form modifier
 modifier_with_at = g.a_modifier ⊲ g.exactly w.At
 
+-- a terminal that no statement with a body begins with
+abbrev pub BeginsNoBody : Terminal → Type 0
+BeginsNoBody k = (k ≢ w.If) × ((k ≢ w.While) × (k ≢ w.For))
+
 module _ (tokens : List PlacedTerminal) where
   -- ---- operands, targets, right sides
 
@@ -207,6 +211,10 @@ module _ (tokens : List PlacedTerminal) where
 
   unfoldable pub read_barrier : ℕ → ℕ → Outcome StatementForm
   read_barrier levels at = reading tokens levels g.barrier None at
+
+  -- a terminal and its semicolon
+  unfoldable pub read_keyword : Terminal → ℕ → Outcome PlacedTerminal
+  read_keyword k at = reading tokens 0 (g.ended {s = token} (g.exactly k)) None at
 
   -- a statement of one terminal
   unfoldable pub read_keyword_alone : Terminal → StatementForm → ℕ → Outcome StatementForm

@@ -8,6 +8,7 @@ ghost use Rattle.qt_grammar.specs.Outcome.{Says};
 ghost use Rattle.qt_expr.specs.Parser.{rest_separated};
 ghost use Rattle.qt_parse.specs.Parser.{read_list, read_entries, read_entry_list, read_entry, read_in_array, read_element_and_lengths, read_array_value, read_array_item, read_array_parts, read_element_in_brackets, read_name_and_list};
 
+use crate::grown::{appended, begun};
 use qt_expr::expression::{expression, expressions, scalar};
 use qt_expr::names::label;
 use qt_grammar::refusal::Refusal;
@@ -68,9 +69,7 @@ fn entry_list(
 ) -> Result<(Items<ListItem>, usize), Refusal>
     ensures { Says (read_entry_list tokens.now levels at) result }
 {
-    let (first, at) = entry(alloc, tokens, levels, at)?;
-    let mut all = Items::new(alloc);
-    all.push(first)?;
+    let (all, at) = begun(alloc, entry(alloc, tokens, levels, at))?;
     more_entries(alloc, tokens, levels, at, all)
 }
 
@@ -92,9 +91,7 @@ fn more_entries(
         if !next_is(tokens, at, Terminal::Comma) {
             return Ok((all, at));
         }
-        let (next, behind) = entry(alloc, tokens, levels, behind(tokens, at))?;
-        all.push(next)?;
-        at = behind;
+        at = appended(&mut all, entry(alloc, tokens, levels, behind(tokens, at)))?;
     }
     Ok((all, at))
 }

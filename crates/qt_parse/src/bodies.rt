@@ -7,11 +7,8 @@ ghost use Rattle.qt_grammar.specs.Outcome.{Says};
 ghost use Rattle.qt_expr.specs.Parser.{rest_some};
 ghost use Rattle.qt_parse.specs.Parser.{read_block, read_statements, read_single, read_a_block, read_body, read_if, read_otherwise, read_while, read_sequence, read_for, read_statement_form, read_statement, read_block_or_none, read_branches, read_named_loop, read_range_in_brackets, read_values, read_values_and_body};
 
-use crate::assignments::by_name;
-use crate::statements::{
-    alias, barrier, bit_register, break_statement, constant, continue_statement, declaration,
-    end_statement, gate_statement, measurement, reset, return_statement,
-};
+use crate::grown::{appended, begun};
+use crate::statements::form_without_body;
 use qt_expr::expression::{in_parentheses, range, scalar, set};
 use qt_expr::names::label;
 use qt_grammar::refusal::Refusal;
@@ -209,7 +206,7 @@ fn for_loop(
 }
 
 /// A statement, but for its place.
-#[tactic(auto, unfolding(crate::specs::Parser::read_statement_form, crate::specs::Parser::read_if, crate::specs::Parser::read_while, crate::specs::Parser::read_for, crate::specs::Parser::read_declaration, crate::specs::Parser::read_bit_register, crate::specs::Parser::read_constant, crate::specs::Parser::read_alias, crate::specs::Parser::read_by_name, crate::specs::Parser::read_gate_statement, crate::specs::Parser::read_measurement, crate::specs::Parser::read_reset, crate::specs::Parser::read_barrier, crate::specs::Parser::read_return, crate::specs::Parser::read_keyword_alone))]
+#[tactic(auto, unfolding(crate::specs::Parser::read_statement_form, crate::specs::Parser::read_if, crate::specs::Parser::read_while, crate::specs::Parser::read_for))]
 #[cycle(statement)]
 pub fn statement_form(
     alloc: Global,
@@ -220,24 +217,10 @@ pub fn statement_form(
     ensures { Says (read_statement_form tokens.now levels at) result }
 {
     match tokens.terminal(at) {
-        Terminal::Bool | Terminal::Bit | Terminal::Int | Terminal::Uint | Terminal::Angle =>
-            declaration(alloc, tokens, levels, at),
-        Terminal::Creg => bit_register(alloc, tokens, levels, at),
-        Terminal::Const => constant(alloc, tokens, levels, at),
-        Terminal::Let => alias(alloc, tokens, levels, at),
-        Terminal::Name => by_name(alloc, tokens, levels, at),
-        Terminal::Inv | Terminal::Pow | Terminal::Ctrl | Terminal::NegCtrl | Terminal::GPhase =>
-            gate_statement(alloc, tokens, levels, at),
-        Terminal::Measure => measurement(alloc, tokens, levels, at),
-        Terminal::Reset => reset(alloc, tokens, levels, at),
-        Terminal::Barrier => barrier(alloc, tokens, levels, at),
         Terminal::If => if_statement(alloc, tokens, levels, at),
         Terminal::While => while_loop(alloc, tokens, levels, at),
         Terminal::For => for_loop(alloc, tokens, levels, at),
-        Terminal::Break => break_statement(tokens, at),
-        Terminal::Continue => continue_statement(tokens, at),
-        Terminal::Return => return_statement(alloc, tokens, levels, at),
-        _ => end_statement(tokens, at),
+        _ => form_without_body(alloc, tokens, levels, at),
     }
 }
 
@@ -268,9 +251,7 @@ fn statements(
 ) -> Result<(Items<Statement>, usize), Refusal>
     ensures { Says (read_statements tokens.now levels at) result }
 {
-    let (first, at) = statement(alloc, tokens, levels, at)?;
-    let mut all = Items::new(alloc);
-    all.push(first)?;
+    let (all, at) = begun(alloc, statement(alloc, tokens, levels, at))?;
     more_statements(alloc, tokens, levels, at, all)
 }
 
@@ -292,9 +273,7 @@ fn more_statements(
         if !begins_statement(tokens, at) {
             return Ok((all, at));
         }
-        let (next, behind) = statement(alloc, tokens, levels, at)?;
-        all.push(next)?;
-        at = behind;
+        at = appended(&mut all, statement(alloc, tokens, levels, at))?;
     }
     Ok((all, at))
 }
@@ -330,10 +309,7 @@ fn single(
     if levels == 0 {
         return Err(too_deep(at, begins_statement(tokens, at)));
     }
-    let (only, at) = statement(alloc, tokens, levels - 1, at)?;
-    let mut all = Items::new(alloc);
-    all.push(only)?;
-    Ok((all, at))
+    begun(alloc, statement(alloc, tokens, levels - 1, at))
 }
 
 /// `{ statement }`, one level deeper where there are any.

@@ -8,6 +8,7 @@ ghost use Rattle.qt_grammar.specs.Outcome.{Says};
 ghost use Rattle.qt_expr.specs.Parser.{rest_some};
 ghost use Rattle.qt_parse.specs.Parser.{modifier_with_at, read_controls, read_modifier, read_modifier_with_at, read_modifiers, read_phase_call, read_gate_arguments, read_named_call, read_bare_call, read_modified_call, read_gate_call, read_exponent};
 
+use crate::grown::{appended, begun};
 use crate::operands::{any_operands, operands};
 use qt_expr::expression::{arguments, in_parentheses};
 use qt_expr::names::label;
@@ -107,9 +108,7 @@ fn modifiers(
 ) -> Result<(Items<Modifier>, usize), Refusal>
     ensures { Says (read_modifiers tokens.now levels at) result }
 {
-    let (first, at) = modifier_with_at(alloc, tokens, levels, at)?;
-    let mut all = Items::new(alloc);
-    all.push(first)?;
+    let (all, at) = begun(alloc, modifier_with_at(alloc, tokens, levels, at))?;
     more_modifiers(alloc, tokens, levels, at, all)
 }
 
@@ -130,9 +129,7 @@ fn more_modifiers(
         if !begins_modifier(tokens, at) {
             return Ok((all, at));
         }
-        let (next, behind) = modifier_with_at(alloc, tokens, levels, at)?;
-        all.push(next)?;
-        at = behind;
+        at = appended(&mut all, modifier_with_at(alloc, tokens, levels, at))?;
     }
     Ok((all, at))
 }

@@ -10,6 +10,7 @@ ghost use Rattle.qt_parse.specs.Parser.{read_any_names, read_gate_line_form, rea
 
 use crate::bodies::braced;
 use crate::calls::gate_call;
+use crate::grown::{appended, begun};
 use crate::items::qubits;
 use qt_expr::expression::scalar;
 use qt_expr::names::{label, names};
@@ -101,9 +102,7 @@ fn gate_lines(
 ) -> Result<(Items<GateStatement>, usize), Refusal>
     ensures { Says (read_gate_lines tokens.now levels at) result }
 {
-    let (first, at) = gate_line(alloc, tokens, levels, at)?;
-    let mut all = Items::new(alloc);
-    all.push(first)?;
+    let (all, at) = begun(alloc, gate_line(alloc, tokens, levels, at))?;
     more_gate_lines(alloc, tokens, levels, at, all)
 }
 
@@ -124,9 +123,7 @@ fn more_gate_lines(
         if !begins_gate_line(tokens, at) {
             return Ok((all, at));
         }
-        let (next, behind) = gate_line(alloc, tokens, levels, at)?;
-        all.push(next)?;
-        at = behind;
+        at = appended(&mut all, gate_line(alloc, tokens, levels, at))?;
     }
     Ok((all, at))
 }
@@ -293,9 +290,7 @@ fn parameter_list(
 ) -> Result<(Items<Parameter>, usize), Refusal>
     ensures { Says (read_parameter_list tokens.now levels at) result }
 {
-    let (first, at) = parameter(alloc, tokens, levels, at)?;
-    let mut all = Items::new(alloc);
-    all.push(first)?;
+    let (all, at) = begun(alloc, parameter(alloc, tokens, levels, at))?;
     more_parameters(alloc, tokens, levels, at, all)
 }
 
@@ -316,9 +311,10 @@ fn more_parameters(
         if !next_is(tokens, at, Terminal::Comma) {
             return Ok((all, at));
         }
-        let (next, behind) = parameter(alloc, tokens, levels, behind(tokens, at))?;
-        all.push(next)?;
-        at = behind;
+        at = appended(
+            &mut all,
+            parameter(alloc, tokens, levels, behind(tokens, at)),
+        )?;
     }
     Ok((all, at))
 }

@@ -12,6 +12,7 @@ mod assignments;
 mod bodies;
 mod calls;
 mod definitions;
+mod grown;
 mod items;
 mod operands;
 pub mod parser;

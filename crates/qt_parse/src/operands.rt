@@ -8,6 +8,7 @@ ghost use Rattle.qt_grammar.specs.Outcome.{Says};
 ghost use Rattle.qt_expr.specs.Parser.{rest_separated};
 ghost use Rattle.qt_parse.specs.Parser.{read_operand, read_operands, read_any_operands, read_target, read_measured, read_right, read_first_value, read_index_in_brackets, read_optional_index};
 
+use crate::grown::{appended, begun};
 use qt_expr::expression::{all_indexes, expression, index};
 use qt_expr::names::label;
 use qt_grammar::refusal::Refusal;
@@ -79,9 +80,7 @@ pub fn operands(
     requires { 0 < alphabet.code between }
     ensures { Says (read_operands tokens.now between levels at) result }
 {
-    let (first, at) = operand(alloc, tokens, levels, at)?;
-    let mut all = Items::new(alloc);
-    all.push(first)?;
+    let (all, at) = begun(alloc, operand(alloc, tokens, levels, at))?;
     more_operands(alloc, tokens, levels, at, between, all)
 }
 
@@ -104,9 +103,7 @@ fn more_operands(
         if !next_is(tokens, at, between) {
             return Ok((all, at));
         }
-        let (next, behind) = operand(alloc, tokens, levels, behind(tokens, at))?;
-        all.push(next)?;
-        at = behind;
+        at = appended(&mut all, operand(alloc, tokens, levels, behind(tokens, at)))?;
     }
     Ok((all, at))
 }

@@ -11,6 +11,7 @@ ghost use Rattle.qt_parse.specs.Parser.{read_statement_item, read_global, read_i
 use crate::arrays::array_item;
 use crate::bodies::statement_form;
 use crate::definitions::{definition, gate_item};
+use crate::grown::{appended, begun};
 use crate::items::{include, input, output, qubit_item, register_item};
 use qt_grammar::maximum::MOST_LEVELS;
 use qt_grammar::refusal::Refusal;
@@ -76,12 +77,10 @@ fn items(
 ) -> Result<(Items<Item>, usize), Refusal>
     ensures { Says (read_items tokens.now levels at) result }
 {
-    let mut all = Items::new(alloc);
     if !begins_item(tokens, at) {
-        return Ok((all, at));
+        return Ok((Items::new(alloc), at));
     }
-    let (first, at) = global(alloc, tokens, levels, at)?;
-    all.push(first)?;
+    let (all, at) = begun(alloc, global(alloc, tokens, levels, at))?;
     more_items(alloc, tokens, levels, at, all)
 }
 
@@ -102,9 +101,7 @@ fn more_items(
         if !begins_item(tokens, at) {
             return Ok((all, at));
         }
-        let (next, behind) = global(alloc, tokens, levels, at)?;
-        all.push(next)?;
-        at = behind;
+        at = appended(&mut all, global(alloc, tokens, levels, at))?;
     }
     Ok((all, at))
 }
@@ -150,13 +147,10 @@ fn versions(
 ) -> Result<(Items<Version>, usize), Refusal>
     ensures { Says (read_versions tokens.now at) result }
 {
-    let mut versions = Items::new(alloc);
     if !next_is(tokens, at, Terminal::OpenQasm) {
-        return Ok((versions, at));
+        return Ok((Items::new(alloc), at));
     }
-    let (version, at) = version(alloc, tokens, at)?;
-    versions.push(version)?;
-    Ok((versions, at))
+    begun(alloc, version(alloc, tokens, at))
 }
 
 /// `program = [ version ] { global }`, and then the end of the text.

@@ -1,11 +1,15 @@
 //! Statements of one line that begin with a terminal of their own.
 
-ghost use Rattle.std.specs.Prelude.{◌≡◌};
+ghost use Rattle.std.specs.Prelude.{◌≡◌, ◌<◌};
+ghost use Rattle.qt_terminals.specs.Alphabet as alphabet;
+ghost use Rattle.qt_terminals.specs.Terminals.{stream};
 ghost use Rattle.qt_terminals.specs.declared.terminal.Terminal.TheVariants as w;
 ghost use Rattle.qt_tree.specs.declared.statement.StatementForm.TheVariants as s;
 ghost use Rattle.qt_grammar.specs.Outcome.{Says};
-ghost use Rattle.qt_parse.specs.Parser.{read_declaration, read_optional_value, read_bit_register, read_optional_size, read_constant, read_alias, read_gate_statement, read_unnamed_call, read_measured_to, read_measurement, read_reset, read_barrier, read_keyword_alone, read_return, read_optional_right, read_constant_value, read_joined_operands, read_name_and_size, read_name_and_value, read_named_constant, read_named_operands, read_typed_constant, read_typed_value};
+ghost use Rattle.qt_lookahead.specs.OneToken.{Steps};
+ghost use Rattle.qt_parse.specs.Parser.{BeginsNoBody, read_statement_form, read_by_name, read_declaration, read_optional_value, read_bit_register, read_optional_size, read_constant, read_alias, read_gate_statement, read_unnamed_call, read_measured_to, read_measurement, read_reset, read_barrier, read_keyword, read_keyword_alone, read_return, read_optional_right, read_constant_value, read_joined_operands, read_name_and_size, read_name_and_value, read_named_constant, read_named_operands, read_typed_constant, read_typed_value};
 
+use crate::assignments::by_name;
 use crate::calls::{modified_call, phase_call};
 use crate::operands::{any_operands, first_value, measured, operand, operands, right, target};
 use qt_expr::expression::{expression, scalar, size};
@@ -69,7 +73,7 @@ fn typed_value(
 
 /// `scalar Name [ "=" right ] ";"`
 #[tactic(auto, unfolding(crate::specs::Parser::read_declaration, crate::specs::Parser::read_typed_value, qt_lookahead::specs::OneToken::read_exactly))]
-pub fn declaration(
+fn declaration(
     alloc: Global,
     tokens: &TokenStream<'_>,
     levels: usize,
@@ -120,7 +124,7 @@ pub fn name_and_size(
 
 /// `"creg" Name [ "[" expr "]" ] ";"`
 #[tactic(auto, unfolding(crate::specs::Parser::read_bit_register, crate::specs::Parser::read_name_and_size, qt_lookahead::specs::OneToken::read_exactly))]
-pub fn bit_register(
+fn bit_register(
     alloc: Global,
     tokens: &TokenStream<'_>,
     levels: usize,
@@ -179,7 +183,7 @@ fn typed_constant(
 
 /// `"const" scalar Name "=" expr ";"`
 #[tactic(auto, unfolding(crate::specs::Parser::read_constant, crate::specs::Parser::read_typed_constant, qt_lookahead::specs::OneToken::read_exactly))]
-pub fn constant(
+fn constant(
     alloc: Global,
     tokens: &TokenStream<'_>,
     levels: usize,
@@ -227,7 +231,7 @@ fn named_operands(
 
 /// `"let" Name "=" operand { "++" operand } ";"`
 #[tactic(auto, unfolding(crate::specs::Parser::read_alias, crate::specs::Parser::read_named_operands, qt_lookahead::specs::OneToken::read_exactly))]
-pub fn alias(
+fn alias(
     alloc: Global,
     tokens: &TokenStream<'_>,
     levels: usize,
@@ -260,7 +264,7 @@ fn unnamed_call(
 
 /// A statement that is such a gate call.
 #[tactic(auto, unfolding(crate::specs::Parser::read_gate_statement, crate::specs::Parser::read_unnamed_call, qt_lookahead::specs::OneToken::read_exactly))]
-pub fn gate_statement(
+fn gate_statement(
     alloc: Global,
     tokens: &TokenStream<'_>,
     levels: usize,
@@ -293,7 +297,7 @@ fn measured_to(
 
 /// `"measure" operand [ "->" target ] ";"`
 #[tactic(auto, unfolding(crate::specs::Parser::read_measurement, crate::specs::Parser::read_measured, crate::specs::Parser::read_measured_to, qt_lookahead::specs::OneToken::read_exactly))]
-pub fn measurement(
+fn measurement(
     alloc: Global,
     tokens: &TokenStream<'_>,
     levels: usize,
@@ -309,7 +313,7 @@ pub fn measurement(
 
 /// `"reset" operand ";"`
 #[tactic(auto, unfolding(crate::specs::Parser::read_reset, crate::specs::Parser::read_operand, qt_lookahead::specs::OneToken::read_exactly))]
-pub fn reset(
+fn reset(
     alloc: Global,
     tokens: &TokenStream<'_>,
     levels: usize,
@@ -325,7 +329,7 @@ pub fn reset(
 
 /// `"barrier" [ operands ] ";"`
 #[tactic(auto, unfolding(crate::specs::Parser::read_barrier, crate::specs::Parser::read_any_operands, qt_lookahead::specs::OneToken::read_exactly))]
-pub fn barrier(
+fn barrier(
     alloc: Global,
     tokens: &TokenStream<'_>,
     levels: usize,
@@ -358,7 +362,7 @@ fn optional_right(
 
 /// `"return" [ right ] ";"`
 #[tactic(auto, unfolding(crate::specs::Parser::read_return, crate::specs::Parser::read_optional_right, qt_lookahead::specs::OneToken::read_exactly))]
-pub fn return_statement(
+fn return_statement(
     alloc: Global,
     tokens: &TokenStream<'_>,
     levels: usize,
@@ -372,35 +376,72 @@ pub fn return_statement(
     Ok((StatementForm::Return { value }, at))
 }
 
+/// A keyword and its semicolon, of which the place behind is answered.
+#[tactic(auto, unfolding(crate::specs::Parser::read_keyword, qt_lookahead::specs::OneToken::read_exactly))]
+fn keyword_alone(tokens: &TokenStream<'_>, at: usize, keyword: Terminal) -> Result<usize, Refusal>
+    requires { 0 < alphabet.code keyword }
+    ensures { Steps (read_keyword tokens.now keyword at) (stream tokens.now at) result }
+{
+    let at = exactly(tokens, at, keyword)?;
+    exactly(tokens, at, Terminal::Semicolon)
+}
+
 /// `"break" ";"`
-#[tactic(auto, unfolding(crate::specs::Parser::read_keyword_alone, qt_lookahead::specs::OneToken::read_exactly))]
-pub fn break_statement(
-    tokens: &TokenStream<'_>,
-    at: usize,
-) -> Result<(StatementForm, usize), Refusal>
+#[tactic(auto, unfolding(crate::specs::Parser::read_keyword_alone, crate::specs::Parser::read_keyword))]
+fn break_statement(tokens: &TokenStream<'_>, at: usize) -> Result<(StatementForm, usize), Refusal>
     ensures { Says (read_keyword_alone tokens.now w.Break s.Break at) result }
 {
-    let at = exactly(tokens, at, Terminal::Break)?;
-    with_semicolon(tokens, StatementForm::Break, at)
+    let at = keyword_alone(tokens, at, Terminal::Break)?;
+    Ok((StatementForm::Break, at))
 }
 
 /// `"continue" ";"`
-#[tactic(auto, unfolding(crate::specs::Parser::read_keyword_alone, qt_lookahead::specs::OneToken::read_exactly))]
-pub fn continue_statement(
+#[tactic(auto, unfolding(crate::specs::Parser::read_keyword_alone, crate::specs::Parser::read_keyword))]
+fn continue_statement(
     tokens: &TokenStream<'_>,
     at: usize,
 ) -> Result<(StatementForm, usize), Refusal>
     ensures { Says (read_keyword_alone tokens.now w.Continue s.Continue at) result }
 {
-    let at = exactly(tokens, at, Terminal::Continue)?;
-    with_semicolon(tokens, StatementForm::Continue, at)
+    let at = keyword_alone(tokens, at, Terminal::Continue)?;
+    Ok((StatementForm::Continue, at))
 }
 
 /// `"end" ";"`
-#[tactic(auto, unfolding(crate::specs::Parser::read_keyword_alone, qt_lookahead::specs::OneToken::read_exactly))]
-pub fn end_statement(tokens: &TokenStream<'_>, at: usize) -> Result<(StatementForm, usize), Refusal>
+#[tactic(auto, unfolding(crate::specs::Parser::read_keyword_alone, crate::specs::Parser::read_keyword))]
+fn end_statement(tokens: &TokenStream<'_>, at: usize) -> Result<(StatementForm, usize), Refusal>
     ensures { Says (read_keyword_alone tokens.now w.EndWord s.End at) result }
 {
-    let at = exactly(tokens, at, Terminal::EndWord)?;
-    with_semicolon(tokens, StatementForm::End, at)
+    let at = keyword_alone(tokens, at, Terminal::EndWord)?;
+    Ok((StatementForm::End, at))
+}
+
+/// A statement that has no body, but for its place.
+#[tactic(auto, unfolding(crate::specs::Parser::read_statement_form, crate::specs::Parser::read_declaration, crate::specs::Parser::read_bit_register, crate::specs::Parser::read_constant, crate::specs::Parser::read_alias, crate::specs::Parser::read_by_name, crate::specs::Parser::read_gate_statement, crate::specs::Parser::read_measurement, crate::specs::Parser::read_reset, crate::specs::Parser::read_barrier, crate::specs::Parser::read_return, crate::specs::Parser::read_keyword_alone))]
+pub fn form_without_body(
+    alloc: Global,
+    tokens: &TokenStream<'_>,
+    levels: usize,
+    at: usize,
+) -> Result<(StatementForm, usize), Refusal>
+    requires { BeginsNoBody (stream tokens.now at).terminal }
+    ensures { Says (read_statement_form tokens.now levels at) result }
+{
+    match tokens.terminal(at) {
+        Terminal::Bool | Terminal::Bit | Terminal::Int | Terminal::Uint | Terminal::Angle =>
+            declaration(alloc, tokens, levels, at),
+        Terminal::Creg => bit_register(alloc, tokens, levels, at),
+        Terminal::Const => constant(alloc, tokens, levels, at),
+        Terminal::Let => alias(alloc, tokens, levels, at),
+        Terminal::Name => by_name(alloc, tokens, levels, at),
+        Terminal::Inv | Terminal::Pow | Terminal::Ctrl | Terminal::NegCtrl | Terminal::GPhase =>
+            gate_statement(alloc, tokens, levels, at),
+        Terminal::Measure => measurement(alloc, tokens, levels, at),
+        Terminal::Reset => reset(alloc, tokens, levels, at),
+        Terminal::Barrier => barrier(alloc, tokens, levels, at),
+        Terminal::Break => break_statement(tokens, at),
+        Terminal::Continue => continue_statement(tokens, at),
+        Terminal::Return => return_statement(alloc, tokens, levels, at),
+        _ => end_statement(tokens, at),
+    }
 }
