@@ -276,6 +276,22 @@ def gate_rows(chance):
         yield state_row(some_entries(chance, 3), [("turn", *chance.choice(controls), 1, *three) for three in some])
 
 
+def every_angle_rows(chance):
+    # each angle theta of a turn, and each phase, under each set of controls
+    for qubits in range(1, 5):
+        turns = [
+            ("turn", ones, clear, target, theta, chance.randrange(8), chance.randrange(8))
+            for target in range(qubits)
+            for ones, clear in control_sets(qubits, target)
+            for theta in range(8)
+        ]
+        phases = [("phase", ones, clear, angle) for ones, clear in control_sets(qubits) for angle in range(8)]
+        steps = turns + phases
+        chance.shuffle(steps)
+        for some in chunks(steps, 12):
+            yield state_row(some_entries(chance, qubits), some)
+
+
 HADAMARD, X, T = (2, 0, 4), (4, 0, 4), (0, 0, 1)
 
 
@@ -294,6 +310,12 @@ def bound_rows():
     once = [("turn", 0, 0, 0, *HADAMARD), ("zero", 0)]
     yield state_row(1, once * (2 * MOST_HALVINGS))
     yield state_row(1, once * (2 * MOST_HALVINGS) + once)
+    # one halving more before the product is reduced, and the bounds of coefficients below 0
+    for angles in (X, T, (4, 3, 5)):
+        yield state_row(1, once * (2 * MOST_HALVINGS) + [("turn", 0, 0, 0, *angles)])
+    yield state_row(1, once * (2 * MOST_HALVINGS - 1) + [("turn", 0, 0, 0, *HADAMARD)] * 3)
+    for entries in ([minus(largest), minus(largest)], [minus(largest), minus(next_to)], [minus(next_to), minus(next_to)]):
+        yield state_row(entries, [("turn", 0, 0, 0, *HADAMARD)])
 
 
 def measured_rows(chance):
@@ -482,6 +504,7 @@ def rows():
     yield state_row(1, [("turn", 0, 0, 0, *HADAMARD)])
     yield state_row([TWO, ZERO], [])
     yield from gate_rows(chance)
+    yield from every_angle_rows(random.Random(15))
     yield from bound_rows()
     yield from measured_rows(chance)
     yield from split_rows(chance)
