@@ -9,9 +9,9 @@
 //! - `split`: what the outcomes of each qubit in turn leave;
 //! - `hash`: the branch that has the amplitudes is told to a hasher, that of a map by default.
 //!
-//! The state begins with `h` and then `t` on each qubit, so that no amplitude is 0. An answer tells what came of the work, so that none of it
-//! can be left out: how often the gate was applied, with the halvings and the norm of the last state; how many amplitudes the last copy
-//! has; the sum of the powers of two of the scales; how many halves there were; the hash. Any other line is answered with `no row`.
+//! The state begins with `h` and then `t` on each qubit, so that no amplitude is 0. An answer tells what came of the work, so that none
+//! of it can be left out: how often the gate was applied, with the halvings and the norm of the last state; how many amplitudes the last
+//! copy has; the sum of the powers of two of the scales; how many halves there were; the hash. Any other line is answered with `no row`.
 #![tactic(auto)]
 
 mod gates;
