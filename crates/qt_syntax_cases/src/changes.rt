@@ -1,6 +1,7 @@
 //! Rows of texts in whose tokens one is changed, each in turn.
 
 use crate::LONGEST;
+use crate::answer::Answer;
 use crate::reading::answer_outcome;
 use qt_lex::lexer::lex;
 use qt_lex::tokens::{Kind, Token};
@@ -16,18 +17,25 @@ fn ended(alloc: Global, tokens: &[Token], count: usize) -> Result<Vec<Token>, Al
     Ok(ended)
 }
 
-/// `ended: TEXT`: the outcome of the first tokens alone, for each number of them.
-pub fn answer_ended(
+/// The outcome of some tokens of a text, with a `;`.
+fn write_outcome(
     alloc: Global,
     text: &str,
-    tokens: &[Token],
-    answer: &mut String,
-) -> Result<(), AllocError> {
-    for count in 0..tokens.len() {
-        answer_outcome(alloc, text, &ended(alloc, tokens, count)?, answer)?;
-        answer.push(';')?;
+    tokens: Result<Vec<Token>, AllocError>,
+    answer: &mut Answer,
+) {
+    match tokens {
+        Ok(tokens) => answer_outcome(alloc, text, &tokens, answer),
+        Err(_) => answer.give_up(),
     }
-    Ok(())
+    answer.put(";");
+}
+
+/// `ended: TEXT`: the outcome of the first tokens alone, for each number of them.
+pub fn answer_ended(alloc: Global, text: &str, tokens: &[Token], answer: &mut Answer) {
+    for count in 0..tokens.len() {
+        write_outcome(alloc, text, ended(alloc, tokens, count), answer);
+    }
 }
 
 /// The tokens with another at the place of one of them.
@@ -46,18 +54,10 @@ fn changed(
     Ok(changed)
 }
 
-fn write_changed(
-    alloc: Global,
-    text: &str,
-    tokens: &[Token],
-    other: Token,
-    answer: &mut String,
-) -> Result<(), AllocError> {
+fn write_changed(alloc: Global, text: &str, tokens: &[Token], other: Token, answer: &mut Answer) {
     for at in 0..tokens.len() {
-        answer_outcome(alloc, text, &changed(alloc, tokens, at, other)?, answer)?;
-        answer.push(';')?;
+        write_outcome(alloc, text, changed(alloc, tokens, at, other), answer);
     }
-    Ok(())
 }
 
 /// The last token of a text before its end.
@@ -75,12 +75,14 @@ pub fn answer_changed(
     spelling: &str,
     text: &str,
     tokens: &[Token],
-    answer: &mut String,
-) -> Result<(), AllocError> {
+    answer: &mut Answer,
+) {
     // The other token stands on a line of its own behind the text, so that it has a spelling.
-    let text = format!(in alloc; "{text}\n{spelling}")?;
+    let Ok(text) = format!(in alloc; "{text}\n{spelling}") else {
+        return answer.give_up();
+    };
     match last_of(alloc, &text) {
         Some(other) => write_changed(alloc, &text, tokens, other, answer),
-        None => answer.push_str("no row"),
+        None => answer.put("no row"),
     }
 }

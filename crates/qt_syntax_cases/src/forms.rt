@@ -1,5 +1,9 @@
 //! Rows of expressions and of the forms that hold them.
 
+ghost use Rattle.std.specs.Prelude.{◌≤◌, IfSome};
+ghost use Rattle.qt_grammar.specs.Spelling.{language_limits};
+
+use crate::answer::Answer;
 use crate::expressions::write_expr;
 use crate::reading::write_refusal;
 use qt_expr::expression::{
@@ -8,23 +12,26 @@ use qt_expr::expression::{
 };
 use qt_expr::names::{label, names};
 use qt_expr::parse_expr::parse_expr;
-use qt_grammar::maximum::MOST_LEVELS;
+use qt_grammar::maximum::{MOST_LEVELS, most_levels};
 use qt_grammar::refusal::Refusal;
 use qt_lex::tokens::Token;
-use qt_lookahead::refusal::ParseRefusal;
 use qt_terminals::stream::TokenStream;
-use std::alloc::{AllocError, Global};
+use std::alloc::Global;
 use std::str::SplitWhitespace;
-
-/// How deep a token may stand.
-const MOST_DEPTH: u32 = 64;
 
 fn usize_in(words: &mut SplitWhitespace) -> Option<usize> {
     words.next()?.parse::<usize>().ok()
 }
 
-fn depth_in(words: &mut SplitWhitespace) -> Option<u32> {
-    words.next()?.parse::<u32>().ok()
+/// A depth at which a token may stand.
+fn depth_in(words: &mut SplitWhitespace) -> Option<u32>
+    ensures { IfSome result (λ depth. depth ≤ language_limits.levels) }
+{
+    let depth = words.next()?.parse::<u32>().ok()?;
+    if depth as usize > most_levels() {
+        return None;
+    }
+    Some(depth)
 }
 
 /// `expr AT DEPTH: TEXT`: the number of the token behind the expression that begins at a token of that depth, and its tree; or the
@@ -34,50 +41,33 @@ pub fn answer_expr(
     words: &mut SplitWhitespace,
     text: &str,
     tokens: &[Token],
-    answer: &mut String,
-) -> Result<(), AllocError> {
+    answer: &mut Answer,
+) {
     let (Some(at), Some(depth)) = (usize_in(words), depth_in(words)) else {
-        return answer.push_str("no row");
+        return answer.put("no row");
     };
-    if depth > MOST_DEPTH {
-        return answer.push_str("no row");
-    }
     match parse_expr(alloc, text, tokens, at, depth) {
         Ok((expr, behind)) => {
-            write!(answer, "{behind}")?;
-            write_expr(answer, &expr)
+            write!(answer, "{behind}");
+            write_expr(answer, &expr);
         }
         Err(refusal) => write_refusal(answer, refusal),
     }
 }
 
-/// The number of the token behind an expression at the beginning.
-fn behind_expr(alloc: Global, text: &str, tokens: &[Token]) -> Result<usize, ParseRefusal> {
-    match parse_expr(alloc, text, tokens, 0, 0) {
-        Ok((_, behind)) => Ok(behind),
-        Err(refusal) => Err(refusal),
-    }
-}
-
 /// `beginnings: TEXT`: for each number of first tokens, how many of them an expression takes, or the refusal.
-pub fn answer_beginnings(
-    alloc: Global,
-    text: &str,
-    tokens: &[Token],
-    answer: &mut String,
-) -> Result<(), AllocError> {
+pub fn answer_beginnings(alloc: Global, text: &str, tokens: &[Token], answer: &mut Answer) {
     for count in 0..tokens.len() {
-        match behind_expr(alloc, text, &tokens[..count]) {
-            Ok(behind) => write!(answer, " {behind}")?,
-            Err(refusal) => write_refusal(answer, refusal)?,
+        match behind_of(parse_expr(alloc, text, &tokens[..count], 0, 0)) {
+            Ok(behind) => write!(answer, " {behind}"),
+            Err(refusal) => write_refusal(answer, refusal),
         }
-        answer.push(';')?;
+        answer.put(";");
     }
-    Ok(())
 }
 
 /// The number of the token behind what was read.
-fn behind_of<T: Drop>(found: Result<(T, usize), Refusal>) -> Result<usize, Refusal> {
+fn behind_of<T: Drop, E>(found: Result<(T, usize), E>) -> Result<usize, E> {
     match found {
         Ok((_, behind)) => Ok(behind),
         Err(refusal) => Err(refusal),
@@ -116,17 +106,17 @@ pub fn answer_form(
     words: &mut SplitWhitespace,
     text: &str,
     tokens: &[Token],
-    answer: &mut String,
-) -> Result<(), AllocError> {
+    answer: &mut Answer,
+) {
     let (Some(form), Some(at)) = (words.next(), usize_in(words)) else {
-        return answer.push_str("no row");
+        return answer.put("no row");
     };
     let Ok(stream) = TokenStream::new(alloc, text, tokens) else {
-        return Err(AllocError);
+        return answer.give_up();
     };
     match behind_form(alloc, form, &stream, at) {
         Ok(behind) => write!(answer, "{behind}"),
-        Err(Refusal::OutOfMemory) => Err(AllocError),
+        Err(Refusal::OutOfMemory) => answer.give_up(),
         Err(refusal) => write!(answer, "{refusal:?}"),
     }
 }

@@ -8,6 +8,7 @@
 //! `trees.py` writes the rows and, from the tables of the cases and by a reader of its own, the answers that are wanted.
 #![tactic(auto)]
 
+mod answer;
 mod changes;
 mod expressions;
 mod forms;
@@ -17,6 +18,7 @@ mod refusals;
 mod statements;
 mod texts;
 
+use crate::answer::Answer;
 use qt_lex::lexer::lex;
 use qt_lex::tokens::{LexRefusal, Token};
 use std::alloc::{AllocError, Global};
@@ -33,8 +35,8 @@ fn answer_tokens(
     words: &mut SplitWhitespace,
     text: &str,
     tokens: &[Token],
-    answer: &mut String,
-) -> Result<(), AllocError> {
+    answer: &mut Answer,
+) {
     match words.next() {
         Some("parse") => reading::answer_parse(alloc, text, tokens, answer),
         Some("outcome") => reading::answer_outcome(alloc, text, tokens, answer),
@@ -44,51 +46,50 @@ fn answer_tokens(
         Some("ended") => changes::answer_ended(alloc, text, tokens, answer),
         Some("changed") => match words.next() {
             Some(spelling) => changes::answer_changed(alloc, spelling, text, tokens, answer),
-            None => answer.push_str("no row"),
+            None => answer.put("no row"),
         },
-        _ => answer.push_str("no row"),
+        _ => answer.put("no row"),
     }
 }
 
 /// The answer to a call on a text.
-fn answer_text(
-    alloc: Global,
-    words: &mut SplitWhitespace,
-    text: &[u8],
-    answer: &mut String,
-) -> Result<(), AllocError> {
+fn answer_text(alloc: Global, words: &mut SplitWhitespace, text: &[u8], answer: &mut Answer) {
     let Ok(text) = str::from_utf8(text) else {
-        return answer.push_str("no characters");
+        return answer.put("no characters");
     };
     if text.len() > LONGEST {
-        return answer.push_str("too long");
+        return answer.put("too long");
     }
     match lex(alloc, text, 0) {
         Ok(tokens) => answer_tokens(alloc, words, text, &tokens, answer),
-        Err(LexRefusal::Token(place)) => {
-            answer.push_str(" Token")?;
-            statements::write_place(answer, place)
-        }
-        Err(LexRefusal::OutOfMemory) => Err(AllocError),
+        Err(LexRefusal::Token(place)) => answer.put_placed(" Token", place),
+        Err(LexRefusal::OutOfMemory) => answer.give_up(),
     }
 }
 
-/// The answer to a row, written behind what stands in `answer`.
-fn answer_row(alloc: Global, row: &str, answer: &mut String) -> Result<(), AllocError> {
-    let (call, written) = match row.split_once(": ") {
-        Some((call, written)) => (call, written),
-        None => (row, ""),
-    };
-    let text = texts::bytes_of(alloc, written)?;
+/// The answer to a call on the bytes of a text.
+fn answer_call(alloc: Global, call: &str, text: &[u8], answer: &mut Answer) {
     match call.split_once(' ') {
-        Some(("read", file)) => reading::answer_read(alloc, file, &text, answer),
+        Some(("read", file)) => reading::answer_read(alloc, file, text, answer),
         Some(("refusal", rest)) => refusals::answer_refusal(
             alloc,
             &mut rest.split_whitespace(),
             answer,
         ),
-        _ => answer_text(alloc, &mut call.split_whitespace(), &text, answer),
+        _ => answer_text(alloc, &mut call.split_whitespace(), text, answer),
     }
+}
+
+/// The answer to a row.
+fn answer_to(alloc: Global, row: &str) -> Result<String, AllocError> {
+    let (call, written) = match row.split_once(": ") {
+        Some((call, written)) => (call, written),
+        None => (row, ""),
+    };
+    let text = texts::bytes_of(alloc, written)?;
+    let mut answer = Answer::new(alloc);
+    answer_call(alloc, call, &text, &mut answer);
+    answer.whole()
 }
 
 fn main(rt: HostRuntime) -> io::Result<ExitCode> {
@@ -96,10 +97,9 @@ fn main(rt: HostRuntime) -> io::Result<ExitCode> {
     let rows = io::read_to_string(alloc, rt.reader())?;
     let mut out = BufWriter::new(alloc, io::writer(&rt))?;
     for row in rows.lines() {
-        let mut answer = String::new(alloc);
-        if answer_row(alloc, row, &mut answer).is_err() {
+        let Ok(answer) = answer_to(alloc, row) else {
             return Ok(ExitCode::FAILURE);
-        }
+        };
         writeln!(out, "{answer}")?;
     }
     out.flush()?;

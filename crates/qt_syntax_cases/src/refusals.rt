@@ -1,11 +1,12 @@
 //! Rows of refusals: the lines that tell them.
 
+use crate::answer::Answer;
 use qt_outside::faults::OutOfMemory;
 use qt_read::line::refusal_line;
 use qt_tree::label::Label;
 use qt_tree::place::Place;
 use qt_tree::refusal::{Cause, Feature, TextRefusal};
-use std::alloc::{AllocError, Global};
+use std::alloc::Global;
 use std::str::SplitWhitespace;
 
 /// The line of a refusal without its line feed. The texts 0 and 1 have names, and others have none.
@@ -15,17 +16,13 @@ fn line_of(alloc: Global, refusal: &TextRefusal) -> Result<String, OutOfMemory> 
 }
 
 /// Writes the line of a refusal, and `no line feed` where it isn't ended by one.
-pub fn write_line(
-    alloc: Global,
-    refusal: &TextRefusal,
-    answer: &mut String,
-) -> Result<(), AllocError> {
+pub fn write_line(alloc: Global, refusal: &TextRefusal, answer: &mut Answer) {
     let Ok(line) = line_of(alloc, refusal) else {
-        return Err(AllocError);
+        return answer.give_up();
     };
     match line.strip_suffix('\n') {
-        Some(words) => answer.push_str(words),
-        None => answer.push_str("no line feed"),
+        Some(words) => answer.put(words),
+        None => answer.put("no line feed"),
     }
 }
 
@@ -133,13 +130,9 @@ fn refusal_in(alloc: Global, words: &mut SplitWhitespace) -> Option<TextRefusal>
 }
 
 /// `refusal VARIANT PART ..`: the line of a refusal. A place is the number of its text, its line and its column.
-pub fn answer_refusal(
-    alloc: Global,
-    words: &mut SplitWhitespace,
-    answer: &mut String,
-) -> Result<(), AllocError> {
+pub fn answer_refusal(alloc: Global, words: &mut SplitWhitespace, answer: &mut Answer) {
     match refusal_in(alloc, words) {
         Some(refusal) => write_line(alloc, &refusal, answer),
-        None => answer.push_str("no row"),
+        None => answer.put("no row"),
     }
 }
