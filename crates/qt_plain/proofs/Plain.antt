@@ -1,16 +1,13 @@
 -- The state of all zeros is plain, and gates and projections keep states plain: no gate makes a vector longer than 1.
-use Rattle.std.proofs.Common.{◌≡◌, ℕ, zero, suc, ◌+◌, ◌-◌, ◌*◌, ◌^◌, ◌<◌, ◌≤◌, Bool, true, false, List, [], ◌∷◌, length, replicate, refl, ap, ◌∙◌, arith, pos, ◌+ℤ◌, ◌≤ℤ◌}
+use Rattle.std.proofs.Common.{◌≡◌, ℕ, suc, ◌+◌, ◌*◌, ◌^◌, ◌<◌, ◌≤◌, Bool, true, false, List, [], ◌∷◌, refl, ap, ◌∙◌, arith, pos, ◌≤ℤ◌}
 use Rattle.std.proofs.lemmas.Int.{ints}
-use Rattle.std.proofs.lemmas.List.{length-replicate}
-use Rattle.std.proofs.lemmas.Nat.{pow_pos}
 use Rattle.std.proofs.Math.Nat.{pow-suc, pow-le-pow_right}
 use Rattle.qt_ring.specs.declared.omega.Omega.{Omega}
-use Rattle.qt_ring.specs.Ring.{nil, one}
 use Rattle.qt_ring.specs.Places.{AreQubits}
 use Rattle.qt_ring.specs.Matrix.{Operator}
-use Rattle.qt_ring.specs.State.{State, HasAllEntries, zero_state, applied, project, total_a, total_b}
+use Rattle.qt_ring.specs.State.{State, HasAllEntries, zero_state, applied, project, total_a}
 use Rattle.qt_ring.specs.Gates.{h_gate, x_gate, t_gate, cx_gate}
-use Rattle.qt_ring.proofs.Norms.{norm-nil, total_a-nonneg}
+use Rattle.qt_ring.proofs.Norms.{total_a-nonneg}
 use Rattle.qt_ring.proofs.Gates.{applied_has_all}
 use Rattle.qt_ring.proofs.Totals.{Scales, h_scales, x_scales, t_scales, cx_scales, project_totals, project_has_all}
 use Rattle.qt_mass.proofs.Masses.{total_a-zero_state, all_entries_zero_state}
