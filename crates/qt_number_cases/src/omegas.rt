@@ -28,14 +28,6 @@ fn omega_in(row: &mut Row<'_>) -> Omega
     Omega { c0, c1, c2, c3 }
 }
 
-fn tell(number: Omega, answer: &mut Answer) {
-    write!(answer, "Number({number:?})");
-}
-
-fn tell_perhaps(number: Option<Omega>, answer: &mut Answer) {
-    write!(answer, "Perhaps({number:?})");
-}
-
 fn tell_norm((a, b): (i128, i128), answer: &mut Answer) {
     write!(answer, "Norm({a}, {b})");
 }
@@ -45,14 +37,14 @@ fn answer_one(call: &str, number: Omega, row: &mut Row<'_>, answer: &mut Answer)
     requires { Within (2 ^ 54) number }
 {
     match call {
-        "zero" => write!(answer, "Zero({})", number.is_zero()),
-        "conj" => tell(number.conj(), answer),
+        "zero" => answer.push_variant("Zero", number.is_zero()),
+        "conj" => answer.push_variant("Number", number.conj()),
         "norm" => tell_norm(number.norm_parts(), answer),
-        "halve" => tell_perhaps(number.halve(), answer),
-        "over_root2" => tell_perhaps(number.over_root2(), answer),
-        "over_one_minus_omega" => tell_perhaps(number.over_one_minus_omega(), answer),
-        "times_epsilon" => tell(number.times_epsilon(), answer),
-        "times_epsilon_inverse" => tell(number.times_epsilon_inverse(), answer),
+        "halve" => answer.push_variant("Perhaps", number.halve()),
+        "over_root2" => answer.push_variant("Perhaps", number.over_root2()),
+        "over_one_minus_omega" => answer.push_variant("Perhaps", number.over_one_minus_omega()),
+        "times_epsilon" => answer.push_variant("Number", number.times_epsilon()),
+        "times_epsilon_inverse" => answer.push_variant("Number", number.times_epsilon_inverse()),
         _ => row.refuse(),
     }
 }
@@ -62,10 +54,10 @@ pub fn answer_omega(row: &mut Row<'_>, answer: &mut Answer) {
     let call = row.word();
     let number = omega_in(row);
     match call {
-        "times_omega" => tell(number.times_omega(row.u8()), answer),
-        "add" => tell(number.add(omega_in(row)), answer),
-        "sub" => tell(number.sub(omega_in(row)), answer),
-        "mul" => write!(answer, "Wide({:?})", number.mul(omega_in(row))),
+        "times_omega" => answer.push_variant("Number", number.times_omega(row.u8())),
+        "add" => answer.push_variant("Number", number.add(omega_in(row))),
+        "sub" => answer.push_variant("Number", number.sub(omega_in(row))),
+        "mul" => answer.push_variant("Wide", number.mul(omega_in(row))),
         _ => answer_one(call, number, row, answer),
     }
 }

@@ -29,35 +29,25 @@ fn factor_in(row: &mut Row<'_>) -> i128
 }
 
 fn tell(phase: Phase, answer: &mut Answer) {
-    let units = phase.units();
-    write!(answer, "Units({units})");
+    answer.push_variant("Units", phase.units());
 }
 
 fn tell_outcome(phase: Result<Phase, PhaseFault>, answer: &mut Answer) {
     match phase {
         Ok(phase) => tell(phase, answer),
-        Err(fault) => write!(answer, "Fault({fault:?})"),
+        Err(fault) => answer.push_variant("Fault", fault),
     }
-}
-
-fn tell_same(one: Phase, other: Phase, answer: &mut Answer) {
-    let same = one == other;
-    write!(answer, "Same({same})");
-}
-
-fn tell_eighth(eighth: Option<u8>, answer: &mut Answer) {
-    write!(answer, "Eighth({eighth:?})");
 }
 
 /// The answer of a call on one phase.
 fn answer_on(call: &str, phase: Phase, row: &mut Row<'_>, answer: &mut Answer) {
     match call {
-        "same" => tell_same(phase, phase_in(row), answer),
+        "same" => answer.push_variant("Same", phase == phase_in(row)),
         "sum" => tell_outcome(phase.add(phase_in(row)), answer),
         "opposite" => tell(phase.neg(), answer),
         "product" => tell_outcome(phase.mul_whole(factor_in(row)), answer),
         "quotient" => tell_outcome(phase.div_exact(factor_in(row)), answer),
-        "eighth" => tell_eighth(phase.eighth(), answer),
+        "eighth" => answer.push_variant("Eighth", phase.eighth()),
         _ => row.refuse(),
     }
 }

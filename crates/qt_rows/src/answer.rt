@@ -3,7 +3,7 @@ ghost use Rattle.std.specs.Result.{result_ok};
 ghost use Rattle.qt_rows.specs.Answers.{Appends, AppendsOutput};
 
 use std::alloc::Global;
-use std::fmt::Display;
+use std::fmt::{Debug, Display};
 use std::marker::Model;
 
 /// What is written in answer to a row. Where memory is wanting it is lost: nothing is written any more, and it has no text.
@@ -48,6 +48,15 @@ impl Answer {
         if !self.lost {
             self.lost = self.text.write_fmt(value).is_err();
         }
+    }
+
+    /// Writes `name(value)`, the value in the form of `{:?}`: a variant of that name that holds it.
+    pub fn push_variant<D: Debug>(&mut self, name: &str, value: D)
+    where
+        D: Drop,
+        ensures kept { self.old ≡ None → self.new ≡ None }
+    {
+        write!(self, "{name}({value:?})");
     }
 
     /// Writes a text in place of what stands there.
