@@ -1,5 +1,5 @@
 -- What an answer is once more is written. An answer is its text, or `None` where memory was wanting; a lost answer stays lost.
-use Rattle.std.specs.Prelude.{◌≡◌, ℕ, List, ◌++◌, Option, Some, None, IfSome, IsSomeAnd}
+use Rattle.std.specs.Prelude.{◌≡◌, ℕ, List, ◌++◌, Option, IfSome, IsSomeAnd}
 
 -- The text is written behind what stood there, if the answer isn't lost.
 abbrev pub Appends : Option (List ℕ) → List ℕ → Option (List ℕ) → Type 0
