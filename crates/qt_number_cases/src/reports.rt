@@ -103,7 +103,8 @@ fn bit_chance(alloc: Global, value: u64, of: Reduced) -> Result<Chance, AllocErr
 
 /// The chances of a bit with both its values.
 fn bit_chances(alloc: Global, zero: Reduced, one: Reduced) -> Result<Vec<Chance>, AllocError>
-    ensures { IfOk result (λ chances. total_of chances.items ≡ plus_real (real_of_reduced zero) (plus_real (real_of_reduced one) zero_real)) }
+    ensures { IfOk result (λ chances. total_of chances.items
+        ≡ plus_real (real_of_reduced zero) (plus_real (real_of_reduced one) zero_real)) }
 {
     let (zero, one) = (bit_chance(alloc, 0, zero)?, bit_chance(alloc, 1, one)?);
     Ok(vec![in alloc; zero, one]?)
