@@ -25,57 +25,74 @@
 //! `name_cases.py` writes the rows and, by lists of its own, the answers that are wanted.
 #![tactic(auto)]
 
-mod answer;
 mod many;
 mod named;
 mod names;
 mod registers;
-mod words;
+mod shown;
 
-use answer::Answer;
 use qt_names::tables::Tables;
+use qt_rows::answer::Answer;
+use qt_rows::cases::{Cases, answer_lines};
+use qt_rows::row::Row;
 use std::alloc::Global;
-use std::io::{self, BufWriter, Write};
+use std::io;
 use std::process::ExitCode;
-use words::Words;
 
-/// The answer to a row.
-fn answer_row(alloc: Global, row: &str, tables: &mut Tables, answer: &mut Answer) {
-    let (call, rest) = row.split_once(' ').unwrap_or((row, ""));
-    let mut words = Words::of(rest);
+/// The tables that stay from row to row.
+#[derive(Drop)]
+struct NameCases {
+    tables: Tables,
+}
+
+/// The answer of a call on a register.
+fn answer_register(alloc: Global, call: &str, row: &mut Row<'_>, answer: &mut Answer) {
     match call {
-        "new" => names::new(alloc, tables, answer),
-        "enter" => names::enter(tables, &mut words, answer),
-        "leave" => names::leave(tables, &mut words, answer),
-        "declare" => names::declare(alloc, tables, &mut words, answer),
-        "global" => names::global(alloc, tables, &mut words, answer),
-        "find" => names::find(tables, &mut words, answer),
-        "known" => names::known(tables, &mut words, answer),
-        "declares" => names::declares(tables, &mut words, answer),
-        "many" => many::many(alloc, tables, &mut words, answer),
-        "nest" => many::nest(alloc, tables, &mut words, answer),
-        "register" => registers::register(alloc, rest, answer),
-        "copied" => registers::copied(alloc, rest, answer),
-        "stepped" => registers::stepped(alloc, rest, answer),
-        "overlap" => registers::overlap(alloc, rest, answer),
-        "at" => registers::at(alloc, rest, answer),
-        _ => answer.say("no row"),
+        "register" => registers::register(alloc, row, answer),
+        "copied" => registers::copied(alloc, row, answer),
+        "stepped" => registers::stepped(alloc, row.rest, answer),
+        "overlap" => registers::overlap(alloc, row.rest, answer),
+        "at" => registers::at(alloc, row, answer),
+        _ => row.refuse(),
+    }
+}
+
+/// The answer of a call that asks one table, or that has one ask itself.
+fn answer_table(
+    alloc: Global,
+    call: &str,
+    tables: &mut Tables,
+    row: &mut Row<'_>,
+    answer: &mut Answer,
+) {
+    match call {
+        "find" => names::find(tables, row, answer),
+        "known" => names::known(tables, row, answer),
+        "declares" => names::declares(tables, row, answer),
+        "many" => many::many(alloc, tables, row, answer),
+        "nest" => many::nest(alloc, tables, row, answer),
+        _ => answer_register(alloc, call, row, answer),
+    }
+}
+
+impl Cases for NameCases {
+    fn answer(&mut self, alloc: Global, row: &mut Row<'_>, answer: &mut Answer) {
+        let tables = &mut self.tables;
+        match row.word() {
+            "new" => names::new(alloc, tables, answer),
+            "enter" => names::enter(tables, row, answer),
+            "leave" => names::leave(tables, row, answer),
+            "declare" => names::declare(alloc, tables, row, answer),
+            "global" => names::global(alloc, tables, row, answer),
+            call => answer_table(alloc, call, tables, row, answer),
+        }
     }
 }
 
 fn main(rt: HostRuntime) -> io::Result<ExitCode> {
     let alloc = rt.alloc();
-    let rows = io::read_to_string(alloc, rt.reader())?;
-    let mut out = BufWriter::new(alloc, io::writer(&rt))?;
-    let mut tables = Tables::new(alloc);
-    for row in rows.lines() {
-        let mut answer = Answer::new(alloc);
-        answer_row(alloc, row, &mut tables, &mut answer);
-        match answer.text() {
-            Some(text) => writeln!(out, "{text}")?,
-            None => return Ok(ExitCode::FAILURE),
-        }
-    }
-    out.flush()?;
-    Ok(ExitCode::SUCCESS)
+    let mut cases = NameCases {
+        tables: Tables::new(alloc),
+    };
+    answer_lines(alloc, &mut cases, rt.reader(), io::writer(&rt))
 }

@@ -1,11 +1,12 @@
 //! Rows of many names, and of many scopes.
 
-use crate::answer::Answer;
 use crate::names::table_in;
-use crate::words::Words;
+use crate::shown::show_given;
 use qt_names::named::{Named, Places, What};
 use qt_names::scopes::Scopes;
 use qt_names::tables::Tables;
+use qt_rows::answer::Answer;
+use qt_rows::row::Row;
 use qt_tree::lengths::Lengths;
 use qt_tree::place::Place;
 use qt_tree::refusal::TextRefusal;
@@ -67,24 +68,11 @@ fn declare_and_count(alloc: Global, table: &mut Scopes, count: u32) -> Result<u3
     count_found(alloc, table, count)
 }
 
-/// Shows a count, or why there is none.
-fn show_count(count: Result<u32, TextRefusal>, answer: &mut Answer) {
-    match count {
-        Err(TextRefusal::OutOfMemory) => answer.want(),
-        count => answer.show(&count),
-    }
-}
-
 /// `many TABLE COUNT`
-pub fn many(alloc: Global, tables: &mut Tables, words: &mut Words, answer: &mut Answer) {
-    let Some(table) = table_in(tables, words) else {
-        return answer.say("no row");
-    };
-    let count = words.number32();
-    if !words.are_good() {
-        return answer.say("no row");
+pub fn many(alloc: Global, tables: &mut Tables, row: &mut Row<'_>, answer: &mut Answer) {
+    if let Some(table) = table_in(tables, row) {
+        show_given(declare_and_count(alloc, table, row.u32()), answer);
     }
-    show_count(declare_and_count(alloc, table, count), answer);
 }
 
 /// Opens so many scopes, and declares the name in each.
@@ -119,14 +107,9 @@ fn open_and_close(
 }
 
 /// `nest TABLE COUNT NAME`
-pub fn nest(alloc: Global, tables: &mut Tables, words: &mut Words, answer: &mut Answer) {
-    let Some(table) = table_in(tables, words) else {
-        return answer.say("no row");
-    };
-    let count = words.number32();
-    let name = words.word();
-    if !words.are_good() {
-        return answer.say("no row");
+pub fn nest(alloc: Global, tables: &mut Tables, row: &mut Row<'_>, answer: &mut Answer) {
+    if let Some(table) = table_in(tables, row) {
+        let (count, name) = (row.u32(), row.word());
+        show_given(open_and_close(alloc, table, count, name), answer);
     }
-    show_count(open_and_close(alloc, table, count, name), answer);
 }

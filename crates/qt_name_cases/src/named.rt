@@ -1,15 +1,15 @@
 //! What a row says of a name: `KIND WIDTH LENGTH PLACES`.
 
-use crate::words::Words;
 use qt_names::named::{Named, Places, What};
-use qt_outside::faults::OutOfMemory;
 use qt_registers::register::Register;
+use qt_rows::answer::Answer;
+use qt_rows::row::Row;
 use qt_tree::lengths::Lengths;
 use qt_value::types::ValueType;
 use std::alloc::Global;
 
-fn kind_in(words: &mut Words) -> What {
-    match words.word() {
+fn kind_in(row: &mut Row<'_>) -> What {
+    match row.word() {
         "variable" => What::Variable,
         "constant" => What::Constant,
         "qubits" => What::Qubits,
@@ -18,58 +18,53 @@ fn kind_in(words: &mut Words) -> What {
         "subroutine" => What::Subroutine,
         "parameter" => What::Parameter,
         _ => {
-            words.fail();
+            row.refuse();
             What::Variable
         }
     }
 }
 
-fn type_in(words: &mut Words) -> Option<ValueType> {
-    match words.width() {
+fn type_in(row: &mut Row<'_>) -> Option<ValueType> {
+    match row.u8() {
         0 => None,
         width => Some(ValueType::Int(width)),
     }
 }
 
-fn lengths_in(alloc: Global, words: &mut Words) -> Result<Lengths, OutOfMemory> {
+fn lengths_in(alloc: Global, row: &mut Row<'_>, answer: &mut Answer) -> Lengths {
     let mut items = Vec::new(alloc);
-    let length = words.number32();
+    let length = row.u32();
     if length > 0 {
-        items.push(length)?;
+        answer.require(items.push(length));
     }
-    Ok(Lengths::from_vec(items))
+    Lengths::from_vec(items)
 }
 
-fn qubits_in(alloc: Global, words: &mut Words) -> Result<Places, OutOfMemory> {
-    let first = words.number32();
-    let count = words.number32();
-    let qubits = Register::of_program(alloc, u64::from(first), count)?;
-    Ok(Places::Qubits { qubits })
+fn qubits_in(alloc: Global, row: &mut Row<'_>, answer: &mut Answer) -> Places {
+    let (first, count) = (row.u32(), row.u32());
+    match answer.given(Register::of_program(alloc, u64::from(first), count)) {
+        Some(qubits) => Places::Qubits { qubits },
+        None => Places::Nowhere,
+    }
 }
 
-fn places_in(alloc: Global, words: &mut Words) -> Result<Places, OutOfMemory> {
-    match words.word() {
-        "nowhere" => Ok(Places::Nowhere),
-        "number" => Ok(Places::Number {
-            number: words.number32(),
-        }),
-        "qubits" => qubits_in(alloc, words),
+fn places_in(alloc: Global, row: &mut Row<'_>, answer: &mut Answer) -> Places {
+    match row.word() {
+        "nowhere" => Places::Nowhere,
+        "number" => Places::Number { number: row.u32() },
+        "qubits" => qubits_in(alloc, row, answer),
         _ => {
-            words.fail();
-            Ok(Places::Nowhere)
+            row.refuse();
+            Places::Nowhere
         }
     }
 }
 
-pub fn named_in(alloc: Global, words: &mut Words) -> Result<Named, OutOfMemory> {
-    let what = kind_in(words);
-    let of = type_in(words);
-    let lengths = lengths_in(alloc, words)?;
-    let places = places_in(alloc, words)?;
-    Ok(Named {
-        what,
-        of,
-        lengths,
-        places,
-    })
+pub fn named_in(alloc: Global, row: &mut Row<'_>, answer: &mut Answer) -> Named {
+    Named {
+        what: kind_in(row),
+        of: type_in(row),
+        lengths: lengths_in(alloc, row, answer),
+        places: places_in(alloc, row, answer),
+    }
 }

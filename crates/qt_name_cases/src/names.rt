@@ -1,124 +1,96 @@
 //! Rows of names.
 
-use crate::answer::Answer;
 use crate::named::named_in;
-use crate::words::Words;
-use qt_names::named::Named;
+use crate::shown::{show, show_given};
 use qt_names::scopes::Scopes;
 use qt_names::tables::Tables;
-use qt_tree::refusal::TextRefusal;
+use qt_rows::answer::Answer;
+use qt_rows::row::Row;
+use qt_tree::place::Place;
 use std::alloc::Global;
 
-/// The table that a row names.
-pub fn table_in<'t>(tables: &'t mut Tables, words: &mut Words) -> Option<&'t mut Scopes> {
-    match words.word() {
+/// The table that a row names. Where it names none the row is refused.
+pub fn table_in<'t>(tables: &'t mut Tables, row: &mut Row<'_>) -> Option<&'t mut Scopes> {
+    match row.word() {
         "outside" => Some(&mut tables.outside),
         "inside" => Some(&mut tables.inside),
-        _ => None,
+        _ => {
+            row.refuse();
+            None
+        }
+    }
+}
+
+/// The beginning of a line of the main text.
+fn place_in(row: &mut Row<'_>) -> Place {
+    Place {
+        file: 0,
+        line: row.u32(),
+        column: 1,
     }
 }
 
 /// `new`
 pub fn new(alloc: Global, tables: &mut Tables, answer: &mut Answer) {
     *tables = Tables::new(alloc);
-    answer.say("ok");
+    answer.push_str("ok");
 }
 
 /// `enter TABLE`
-pub fn enter(tables: &mut Tables, words: &mut Words, answer: &mut Answer) {
-    let Some(table) = table_in(tables, words) else {
-        return answer.say("no row");
-    };
-    match table.enter() {
-        Ok(()) => answer.say("ok"),
-        Err(_) => answer.want(),
+pub fn enter(tables: &mut Tables, row: &mut Row<'_>, answer: &mut Answer) {
+    if let Some(table) = table_in(tables, row) {
+        answer.require(table.enter());
+        answer.push_str("ok");
     }
 }
 
 /// `leave TABLE`
-pub fn leave(tables: &mut Tables, words: &mut Words, answer: &mut Answer) {
-    let Some(table) = table_in(tables, words) else {
-        return answer.say("no row");
-    };
-    table.leave();
-    answer.say("ok");
-}
-
-/// Shows what a declaration answers.
-fn show_done(done: Result<(), TextRefusal>, answer: &mut Answer) {
-    match done {
-        Err(TextRefusal::OutOfMemory) => answer.want(),
-        done => answer.show(&done),
+pub fn leave(tables: &mut Tables, row: &mut Row<'_>, answer: &mut Answer) {
+    if let Some(table) = table_in(tables, row) {
+        table.leave();
+        answer.push_str("ok");
     }
-}
-
-/// What a row says of a name. None where it doesn't, or where memory wants; then that is said.
-fn told_in(alloc: Global, words: &mut Words, answer: &mut Answer) -> Option<Named> {
-    let Ok(named) = named_in(alloc, words) else {
-        answer.want();
-        return None;
-    };
-    if !words.are_good() {
-        answer.say("no row");
-        return None;
-    }
-    Some(named)
 }
 
 /// `declare TABLE NAME LINE NAMED`
-pub fn declare(alloc: Global, tables: &mut Tables, words: &mut Words, answer: &mut Answer) {
-    let Some(table) = table_in(tables, words) else {
-        return answer.say("no row");
+pub fn declare(alloc: Global, tables: &mut Tables, row: &mut Row<'_>, answer: &mut Answer) {
+    let Some(table) = table_in(tables, row) else {
+        return;
     };
-    let name = words.word();
-    let place = words.place();
-    if let Some(what) = told_in(alloc, words, answer) {
-        show_done(table.declare(name, what, place), answer);
+    let (name, place) = (row.word(), place_in(row));
+    let what = named_in(alloc, row, answer);
+    if !row.refused {
+        show_given(table.declare(name, what, place), answer);
     }
 }
 
 /// `global NAME LINE NAMED`
-pub fn global(alloc: Global, tables: &mut Tables, words: &mut Words, answer: &mut Answer) {
-    let name = words.word();
-    let place = words.place();
-    if let Some(what) = told_in(alloc, words, answer) {
-        show_done(tables.declare(name, what, place), answer);
-    }
-}
-
-/// Shows what a search answers.
-fn show_found(found: Result<&Named, TextRefusal>, answer: &mut Answer) {
-    match found {
-        Err(TextRefusal::OutOfMemory) => answer.want(),
-        found => answer.show(&found),
+pub fn global(alloc: Global, tables: &mut Tables, row: &mut Row<'_>, answer: &mut Answer) {
+    let (name, place) = (row.word(), place_in(row));
+    let what = named_in(alloc, row, answer);
+    if !row.refused {
+        show_given(tables.declare(name, what, place), answer);
     }
 }
 
 /// `find TABLE NAME LINE`
-pub fn find(tables: &mut Tables, words: &mut Words, answer: &mut Answer) {
-    let Some(table) = table_in(tables, words) else {
-        return answer.say("no row");
-    };
-    let name = words.word();
-    let place = words.place();
-    if !words.are_good() {
-        return answer.say("no row");
+pub fn find(tables: &mut Tables, row: &mut Row<'_>, answer: &mut Answer) {
+    if let Some(table) = table_in(tables, row) {
+        let (name, place) = (row.word(), place_in(row));
+        show_given(table.find(name, place), answer);
     }
-    show_found(table.find(name, place), answer);
 }
 
 /// `known TABLE NAME`
-pub fn known(tables: &mut Tables, words: &mut Words, answer: &mut Answer) {
-    let Some(table) = table_in(tables, words) else {
-        return answer.say("no row");
-    };
-    answer.show(&table.known(words.word()));
+pub fn known(tables: &mut Tables, row: &mut Row<'_>, answer: &mut Answer) {
+    if let Some(table) = table_in(tables, row) {
+        show(&table.known(row.word()), answer);
+    }
 }
 
 /// `declares TABLE NAME`
-pub fn declares(tables: &mut Tables, words: &mut Words, answer: &mut Answer) {
-    let Some(table) = table_in(tables, words) else {
-        return answer.say("no row");
-    };
-    answer.show(&table.declares(words.word()));
+pub fn declares(tables: &mut Tables, row: &mut Row<'_>, answer: &mut Answer) {
+    if let Some(table) = table_in(tables, row) {
+        show(&table.declares(row.word()), answer);
+    }
 }

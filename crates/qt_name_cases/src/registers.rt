@@ -2,97 +2,70 @@
 
 ghost use Rattle.std.specs.Prelude.{◌≡◌, ◌+◌, ◌-◌, ◌*◌, ◌<◌, length, IsTrue};
 
-use crate::answer::Answer;
-use crate::words::Words;
-use qt_outside::faults::OutOfMemory;
+use crate::shown::show;
 use qt_registers::register::Register;
+use qt_rows::answer::Answer;
+use qt_rows::row::Row;
 use std::alloc::Global;
 
-/// `program FIRST COUNT` or `parameter NUMBER SIZE`.
-fn part_in(alloc: Global, words: &mut Words) -> Result<Register, OutOfMemory> {
-    let origin = words.word();
-    let number = words.number32();
-    let count = words.number32();
-    match origin {
+/// Adds `program FIRST COUNT` or `parameter NUMBER SIZE`.
+fn append_part(alloc: Global, row: &mut Row<'_>, register: &mut Register, answer: &mut Answer) {
+    let origin = row.word();
+    let (number, count) = (row.u32(), row.u32());
+    let part = match origin {
         "program" => Register::of_program(alloc, u64::from(number), count),
         "parameter" => Register::of_parameter(alloc, number, count),
-        _ => {
-            words.fail();
-            Ok(Register::none(alloc))
-        }
+        _ => return row.refuse(),
+    };
+    if let Some(part) = answer.given(part) {
+        answer.require(register.append(&part));
     }
 }
 
-/// The register of its parts. None where one has no form.
-fn register_in(alloc: Global, written: &str) -> Result<Option<Register>, OutOfMemory> {
+/// The register of the parts that are still to be read.
+fn register_in(alloc: Global, row: &mut Row<'_>, answer: &mut Answer) -> Register {
     let mut register = Register::none(alloc);
-    for part in written.split(',') {
-        let mut words = Words::of(part);
-        let part = part_in(alloc, &mut words)?;
-        if !words.are_good() {
-            return Ok(None);
-        }
-        register.append(&part)?;
+    for written in row.rest.split(',') {
+        let mut part = Row::new(written);
+        append_part(alloc, &mut part, &mut register, answer);
+        row.refused |= part.refused;
     }
-    Ok(Some(register))
+    register
 }
 
 /// Shows the size of a register, its first ten qubits, and its last.
-fn show(register: &Register, answer: &mut Answer) {
+fn show_qubits(register: &Register, answer: &mut Answer) {
     let size = register.size();
-    answer.show(&size);
+    show(&size, answer);
     for place in 0..size.min(10) {
-        answer.say(" ");
-        answer.show(&register.at(place));
+        answer.push_str(" ");
+        show(&register.at(place), answer);
     }
     if size > 10 {
-        answer.say(" .. ");
-        answer.show(&register.at(size - 1));
-    }
-}
-
-/// Shows a register that a row writes, if it writes one.
-fn show_read(read: Result<Option<Register>, OutOfMemory>, answer: &mut Answer) {
-    match read {
-        Ok(Some(register)) => show(&register, answer),
-        Ok(None) => answer.say("no row"),
-        Err(_) => answer.want(),
+        answer.push_str(" .. ");
+        show(&register.at(size - 1), answer);
     }
 }
 
 /// `register PARTS`
-pub fn register(alloc: Global, written: &str, answer: &mut Answer) {
-    show_read(register_in(alloc, written), answer);
-}
-
-fn copied_in(alloc: Global, written: &str) -> Result<Option<Register>, OutOfMemory> {
-    match register_in(alloc, written)? {
-        Some(register) => Ok(Some(register.copied(alloc)?)),
-        None => Ok(None),
-    }
+pub fn register(alloc: Global, row: &mut Row<'_>, answer: &mut Answer) {
+    show_qubits(&register_in(alloc, row, answer), answer);
 }
 
 /// `copied PARTS`
-pub fn copied(alloc: Global, written: &str, answer: &mut Answer) {
-    show_read(copied_in(alloc, written), answer);
-}
-
-/// Shows the qubit at a place of a register.
-fn show_at(register: Result<Option<Register>, OutOfMemory>, place: u64, answer: &mut Answer) {
-    match register {
-        Ok(Some(register)) => answer.show(&register.at(place)),
-        Ok(None) => answer.say("no row"),
-        Err(_) => answer.want(),
+pub fn copied(alloc: Global, row: &mut Row<'_>, answer: &mut Answer) {
+    let register = register_in(alloc, row, answer);
+    if let Some(copy) = answer.given(register.copied(alloc)) {
+        show_qubits(&copy, answer);
     }
 }
 
 /// `at PLACE; PARTS`
-pub fn at(alloc: Global, row: &str, answer: &mut Answer) {
-    let (place, written) = row.split_once(';').unwrap_or((row, ""));
-    match place.parse::<u64>() {
-        Ok(place) => show_at(register_in(alloc, written), place, answer),
-        Err(_) => answer.say("no row"),
-    }
+pub fn at(alloc: Global, row: &mut Row<'_>, answer: &mut Answer) {
+    let mut written = Row::new(row.part(';'));
+    let place = written.u64();
+    row.refused |= written.refused;
+    show(&register_in(alloc, row, answer).at(place), answer);
 }
 
 /// So many places, one step apart.
@@ -124,18 +97,12 @@ impl Steps {
     }
 }
 
-/// `START STEP COUNT`
-fn steps_in(places: &str) -> Option<Steps> {
-    let mut words = Words::of(places);
-    let steps = Steps {
-        start: words.number(),
-        step: words.number(),
-        count: words.number(),
-    };
-    if !words.are_good() {
-        return None;
-    }
-    Some(steps)
+/// `START STEP COUNT;`
+fn steps_in(row: &mut Row<'_>) -> Steps {
+    let mut places = Row::new(row.part(';'));
+    let (start, step, count) = (places.u64(), places.u64(), places.u64());
+    row.refused |= places.refused;
+    Steps { start, step, count }
 }
 
 /// The qubits of a register at some places, if it has these places.
@@ -143,57 +110,45 @@ fn part_at(
     alloc: Global,
     steps: Steps,
     register: &Register,
-) -> Result<Option<Register>, OutOfMemory> {
+    answer: &mut Answer,
+) -> Option<Register> {
     if !steps.are_within(register.size()) {
-        return Ok(None);
+        return None;
     }
-    let part = register.stepped(alloc, steps.start, steps.step, steps.count)?;
-    Ok(Some(part))
+    answer.given(register.stepped(alloc, steps.start, steps.step, steps.count))
 }
 
 /// `START STEP COUNT; PARTS`. None where it has no form, or where a place isn't in the register.
-fn stepped_in(alloc: Global, written: &str) -> Result<Option<Register>, OutOfMemory> {
-    let (places, parts) = written.split_once(';').unwrap_or((written, ""));
-    let Some(steps) = steps_in(places) else {
-        return Ok(None);
-    };
-    match register_in(alloc, parts)? {
-        Some(register) => part_at(alloc, steps, &register),
-        None => Ok(None),
+fn stepped_in(alloc: Global, written: &str, answer: &mut Answer) -> Option<Register> {
+    let mut row = Row::new(written);
+    let steps = steps_in(&mut row);
+    let register = register_in(alloc, &mut row, answer);
+    if row.refused {
+        return None;
     }
+    part_at(alloc, steps, &register, answer)
 }
 
 /// `stepped START STEP COUNT; PARTS`
 pub fn stepped(alloc: Global, written: &str, answer: &mut Answer) {
-    match stepped_in(alloc, written) {
-        Ok(Some(part)) => show(&part, answer),
-        Ok(None) => answer.say("refused"),
-        Err(_) => answer.want(),
+    match stepped_in(alloc, written, answer) {
+        Some(part) => show_qubits(&part, answer),
+        None => answer.push_str("refused"),
     }
 }
 
-/// Whether a register shares a qubit with one that a row writes.
-fn overlaps(alloc: Global, left: &Register, right: &str) -> Result<Option<bool>, OutOfMemory> {
-    match stepped_in(alloc, right)? {
-        Some(right) => Ok(Some(left.overlaps(&right))),
-        None => Ok(None),
-    }
-}
-
-/// `START STEP COUNT; PARTS / START STEP COUNT; PARTS`
-fn overlap_in(alloc: Global, row: &str) -> Result<Option<bool>, OutOfMemory> {
-    let (left, right) = row.split_once('/').unwrap_or((row, ""));
-    match stepped_in(alloc, left)? {
-        Some(left) => overlaps(alloc, &left, right),
-        None => Ok(None),
-    }
+/// `START STEP COUNT; PARTS / START STEP COUNT; PARTS`: whether they share a qubit. None where one of them is none.
+fn overlap_in(alloc: Global, row: &str, answer: &mut Answer) -> Option<bool> {
+    let (left, right) = row.split_once('/')?;
+    let left = stepped_in(alloc, left, answer)?;
+    let right = stepped_in(alloc, right, answer)?;
+    Some(left.overlaps(&right))
 }
 
 /// `overlap START STEP COUNT; PARTS / START STEP COUNT; PARTS`
 pub fn overlap(alloc: Global, row: &str, answer: &mut Answer) {
-    match overlap_in(alloc, row) {
-        Ok(Some(shared)) => answer.show(&shared),
-        Ok(None) => answer.say("refused"),
-        Err(_) => answer.want(),
+    match overlap_in(alloc, row, answer) {
+        Some(shared) => show(&shared, answer),
+        None => answer.push_str("refused"),
     }
 }
