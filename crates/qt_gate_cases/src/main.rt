@@ -8,73 +8,73 @@
 #![tactic(auto)]
 
 use qt_gate_calls::body::{GateBodies, GateBody};
-use qt_outside::faults::OutOfMemory;
+use qt_rows::answer::Answer;
+use qt_rows::cases::{Cases, answer_lines};
+use qt_rows::row::Row;
 use sqlite_items::Items;
 use std::alloc::Global;
-use std::io::{self, BufWriter, Write};
+use std::io;
 use std::process::ExitCode;
 
+/// What answers the rows.
+#[derive(Drop)]
+struct GateCases;
+
 /// The body without calls of `P:Q`.
-fn body_in(alloc: Global, written: &str) -> Option<GateBody> {
-    let (parameters, qubits) = written.split_once(':')?;
-    let (parameters, qubits) = (parameters.parse::<u32>().ok()?, qubits.parse::<u32>().ok()?);
-    Some(GateBody {
+fn body_in(alloc: Global, row: &mut Row<'_>) -> GateBody {
+    let mut front = Row::new(row.part(':'));
+    let (parameters, qubits) = (front.u32(), row.u32());
+    row.refused |= front.refused;
+    GateBody {
         parameters,
         qubits,
         calls: Items::new(alloc),
-    })
+    }
 }
 
-fn bodies_in(alloc: Global, row: &str) -> Result<Option<Items<GateBody>>, OutOfMemory> {
+fn bodies_in(alloc: Global, row: &mut Row<'_>, answer: &mut Answer) -> Items<GateBody> {
     let mut bodies = Items::new(alloc);
-    for word in row.split_whitespace() {
-        match body_in(alloc, word) {
-            Some(body) => bodies.push(body)?,
-            None => return Ok(None),
-        }
+    for written in row.rest.split_whitespace() {
+        let mut body = Row::new(written);
+        answer.require(bodies.push(body_in(alloc, &mut body)));
+        row.refused |= body.refused;
     }
-    Ok(Some(bodies))
+    bodies
 }
 
-fn write_bodies(bodies: &[GateBody], answer: &mut String) -> Result<(), OutOfMemory> {
-    for body in bodies {
+fn tell_bodies(gates: &GateBodies, answer: &mut Answer) {
+    for body in gates.bodies() {
         let (parameters, qubits) = (body.parameters, body.qubits);
-        write!(answer, " {parameters}:{qubits}")?;
+        write!(answer, " {parameters}:{qubits}");
     }
-    Ok(())
 }
 
-fn write_gates(gates: &GateBodies, answer: &mut String) -> Result<(), OutOfMemory> {
-    answer.push_str("gates")?;
-    write_bodies(gates.bodies(), answer)?;
-    let shared = gates.share()?;
-    answer.push_str(", shared")?;
-    write_bodies(shared.bodies(), answer)
+fn tell_gates(gates: &GateBodies, answer: &mut Answer) {
+    answer.push_str("gates");
+    tell_bodies(gates, answer);
+    if let Some(shared) = answer.given(gates.share()) {
+        answer.push_str(", shared");
+        tell_bodies(&shared, answer);
+    }
 }
 
-/// The answer to a row, written behind what stands in `answer`.
-fn answer_row(alloc: Global, row: &str, answer: &mut String) -> Result<(), OutOfMemory> {
-    let bodies = match row.split_once(' ') {
-        Some(("bodies", list)) => bodies_in(alloc, list)?,
-        _ => None,
-    };
-    match bodies {
-        Some(bodies) => write_gates(&GateBodies::new(alloc, bodies)?, answer),
-        None => Ok(answer.push_str("no row")?),
+/// `bodies P:Q P:Q ..`
+fn answer_bodies(alloc: Global, row: &mut Row<'_>, answer: &mut Answer) {
+    let bodies = bodies_in(alloc, row, answer);
+    if let Some(gates) = answer.given(GateBodies::new(alloc, bodies)) {
+        tell_gates(&gates, answer);
+    }
+}
+
+impl Cases for GateCases {
+    fn answer(&mut self, alloc: Global, row: &mut Row<'_>, answer: &mut Answer) {
+        match row.part(' ') {
+            "bodies" => answer_bodies(alloc, row, answer),
+            _ => row.refuse(),
+        }
     }
 }
 
 fn main(rt: HostRuntime) -> io::Result<ExitCode> {
-    let alloc = rt.alloc();
-    let rows = io::read_to_string(alloc, rt.reader())?;
-    let mut out = BufWriter::new(alloc, io::writer(&rt))?;
-    for row in rows.lines() {
-        let mut answer = String::new(alloc);
-        if answer_row(alloc, row, &mut answer).is_err() {
-            return Ok(ExitCode::FAILURE);
-        }
-        writeln!(out, "{answer}")?;
-    }
-    out.flush()?;
-    Ok(ExitCode::SUCCESS)
+    answer_lines(rt.alloc(), &mut GateCases, rt.reader(), io::writer(&rt))
 }
