@@ -9,3 +9,9 @@ returns-in-Hidden c =
     let name = c.args.name.now in
     let n = count_of c.args.brackets.now in
     name_refuses (named name n (Some c.args.known.now)) name c.unknown.result (ap (λ k. named name n (Some k)) c.in-Hidden.is) c.unknown.ensures
+
+pub returns-in-Subroutine : goal.returns-in-Subroutine
+returns-in-Subroutine c =
+    let name = c.args.name.now in
+    let n = count_of c.args.brackets.now in
+    name_refuses (named name n (Some c.args.known.now)) name c.unknown-in-Subroutine.result (ap (λ k. named name n (Some k)) c.in-Subroutine.is) c.unknown-in-Subroutine.ensures
