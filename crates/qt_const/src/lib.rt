@@ -21,4 +21,4 @@ mod sorts;
 pub mod value;
 
 pub use qt_const_rules::constant::whole_number;
-pub use qt_const_rules::{angles, consts, fault};
+pub use qt_const_rules::{angles, consts, fault, modes};
