@@ -5,7 +5,8 @@ Run it in this folder: `python3 constant_rows.py stdin > stdin` writes the rows,
 answers. `src/main.rt` says what a row is.
 
 A line of the table below is a row, ` => `, and its answer: the number of entries, `TYPE WIDTH BITS` of a value, `phase UNITS`, `type TYPE`,
-`E8 NAME`, `E10`, or `E12` and its word. Rows of angles are reckoned with whole numbers of any size.
+`E8 NAME`, `E10`, `E14` with the number of arguments that are wanted and that of those given, or `E11` or `E12` and its word. Rows of angles
+are reckoned with whole numbers of any size.
 """
 
 import sys
@@ -38,7 +39,11 @@ value int("0101") => int 64 5
 value popcount("0101") => uint 64 2
 value rotl(b, 1) => bit 4 12
 value rotr(b, 2) => bit 4 9
-value rotl(b) => E10
+value rotl(b) => E14 2 1
+value rotr(m, 1, 2) => E14 2 3
+value popcount() => E14 1 0
+value popcount(b, m) => E14 1 2
+value pi * popcount() => E14 1 0
 value f(1) => E8 f
 
 value angle[3](pi / 8) => E12 exact
@@ -216,6 +221,20 @@ value n() => E8 n
 type bit[n](0) => E8 n
 cut 1 => 1
 value n => int 8 3
+known s subroutine => 2
+value s => E8 s
+value s[0] => E8 s
+value sizeof(s) => E8 s
+value s() => E11 call
+value s(m, 1 / 0) => E11 call
+value 1 / 0 + s() => E12 divide
+value s() + m => E11 call
+value false && s() => E11 call
+exponent s() => E11 call
+type bit[s](0) => E8 s
+type bit[s()](0) => E11 call
+cut 1 => 1
+value s() => E8 s
 """
 
 HERE = "Place { file: 0, line: 3, column: 4 }"
@@ -236,6 +255,10 @@ def told(answer):
             return f"Ok({kind})"
         case ["phase", units]:
             return f"Ok(Phase(Phase {{ units: {units} }}))"
+        case ["E14", wanted, given]:
+            return f"Err(E14({HERE}, {wanted}, {given}))"
+        case ["E11", cause]:
+            return f"Err(E11({HERE}, {cause.capitalize()}))"
         case ["E8", name]:
             return f'Err(E8({HERE}, Label {{ text: "{name}" }}))'
         case ["E12", cause]:

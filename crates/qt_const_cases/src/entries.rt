@@ -36,6 +36,7 @@ fn known_in(
 ) -> Result<Option<Known>, OutOfMemory> {
     match kind {
         "other" => Ok(Some(Known::Other)),
+        "subroutine" => Ok(Some(Known::Subroutine)),
         "hidden" => Ok(Some(Known::Hidden)),
         "phase" => Ok(phase(words)),
         "value" => Ok(value(words)),

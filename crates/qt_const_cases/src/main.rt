@@ -2,8 +2,9 @@
 //!
 //! It reads rows from the standard input, one a line, and prints the answer to each as one line. A row is a call:
 //!
-//! - `known NAME other`, `known NAME hidden`, `known NAME phase UNITS`, `known NAME value TYPE WIDTH BITS` and `known NAME lengths LENGTH ..` add an entry
-//!   of a name, and `cut LENGTH` keeps the first entries. The answer is the number of entries then. They stay from row to row.
+//! - `known NAME other`, `known NAME hidden`, `known NAME subroutine`, `known NAME phase UNITS`, `known NAME value TYPE WIDTH BITS` and
+//!   `known NAME lengths LENGTH ..` add an entry of a name, and `cut LENGTH` keeps the first entries. The answer is the number of entries
+//!   then. They stay from row to row.
 //! - `value EXPRESSION` and `exponent EXPRESSION` are answered with the value or the refusal of an expression of the language, and
 //!   `type CAST` with the type that a cast is written with.
 //! - `angle WIDTH UNITS` is answered with a phase as an angle of that width, or its fault.
