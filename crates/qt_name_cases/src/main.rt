@@ -57,7 +57,7 @@ fn answer_register(alloc: Global, call: &str, row: &mut Row<'_>, answer: &mut An
     }
 }
 
-/// The answer of a call that asks one table, or that has one ask itself.
+/// The answer of a call that asks a table, or of many names, or on a register.
 fn answer_table(
     alloc: Global,
     call: &str,

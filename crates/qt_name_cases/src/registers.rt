@@ -8,16 +8,23 @@ use qt_rows::answer::Answer;
 use qt_rows::row::Row;
 use std::alloc::Global;
 
-/// Adds `program FIRST COUNT` or `parameter NUMBER SIZE`.
-fn append_part(alloc: Global, row: &mut Row<'_>, register: &mut Register, answer: &mut Answer) {
+/// `program FIRST COUNT` or `parameter NUMBER SIZE`
+fn part_in(alloc: Global, row: &mut Row<'_>, answer: &mut Answer) -> Option<Register> {
     let origin = row.word();
     let (number, count) = (row.u32(), row.u32());
-    let part = match origin {
-        "program" => Register::of_program(alloc, u64::from(number), count),
-        "parameter" => Register::of_parameter(alloc, number, count),
-        _ => return row.refuse(),
-    };
-    if let Some(part) = answer.given(part) {
+    match origin {
+        "program" => answer.given(Register::of_program(alloc, u64::from(number), count)),
+        "parameter" => answer.given(Register::of_parameter(alloc, number, count)),
+        _ => {
+            row.refuse();
+            None
+        }
+    }
+}
+
+/// Adds a part that a row writes.
+fn append_part(alloc: Global, row: &mut Row<'_>, register: &mut Register, answer: &mut Answer) {
+    if let Some(part) = part_in(alloc, row, answer) {
         answer.require(register.append(&part));
     }
 }
@@ -97,12 +104,13 @@ impl Steps {
     }
 }
 
-/// `START STEP COUNT;`
+/// `START STEP COUNT`
 fn steps_in(row: &mut Row<'_>) -> Steps {
-    let mut places = Row::new(row.part(';'));
-    let (start, step, count) = (places.u64(), places.u64(), places.u64());
-    row.refused |= places.refused;
-    Steps { start, step, count }
+    Steps {
+        start: row.u64(),
+        step: row.u64(),
+        count: row.u64(),
+    }
 }
 
 /// The qubits of a register at some places, if it has these places.
@@ -120,10 +128,11 @@ fn part_at(
 
 /// `START STEP COUNT; PARTS`. None where it has no form, or where a place isn't in the register.
 fn stepped_in(alloc: Global, written: &str, answer: &mut Answer) -> Option<Register> {
-    let mut row = Row::new(written);
-    let steps = steps_in(&mut row);
-    let register = register_in(alloc, &mut row, answer);
-    if row.refused {
+    let (places, parts) = written.split_once(';')?;
+    let (mut places, mut parts) = (Row::new(places), Row::new(parts));
+    let steps = steps_in(&mut places);
+    let register = register_in(alloc, &mut parts, answer);
+    if places.refused || parts.refused {
         return None;
     }
     part_at(alloc, steps, &register, answer)
@@ -137,12 +146,17 @@ pub fn stepped(alloc: Global, written: &str, answer: &mut Answer) {
     }
 }
 
+/// Whether a register shares a qubit with one that a row writes. None where it writes none.
+fn overlap_with(alloc: Global, left: &Register, right: &str, answer: &mut Answer) -> Option<bool> {
+    let right = stepped_in(alloc, right, answer)?;
+    Some(left.overlaps(&right))
+}
+
 /// `START STEP COUNT; PARTS / START STEP COUNT; PARTS`: whether they share a qubit. None where one of them is none.
 fn overlap_in(alloc: Global, row: &str, answer: &mut Answer) -> Option<bool> {
     let (left, right) = row.split_once('/')?;
     let left = stepped_in(alloc, left, answer)?;
-    let right = stepped_in(alloc, right, answer)?;
-    Some(left.overlaps(&right))
+    overlap_with(alloc, &left, right, answer)
 }
 
 /// `overlap START STEP COUNT; PARTS / START STEP COUNT; PARTS`
