@@ -92,7 +92,7 @@ abbrev pub rx_gate : GateBody
 rx_gate = gate 1 1 (u (given 0) quarter_back quarter_turn (0 ∷ []) ∷ gphase (half_back (given 0)) [] ∷ [])
 
 abbrev pub ry_gate : GateBody
-ry_gate = gate 1 1 (u (given 0) no_angle no_angle (0 ∷ []) ∷ [])
+ry_gate = gate 1 1 (u (given 0) no_angle no_angle (0 ∷ []) ∷ gphase (half_back (given 0)) [] ∷ [])
 
 abbrev pub rz_gate : GateBody
 rz_gate = gate 1 1 (gphase (half_back (given 0)) [] ∷ u no_angle no_angle (given 0) (0 ∷ []) ∷ [])
