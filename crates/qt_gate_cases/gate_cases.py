@@ -1,5 +1,5 @@
 #!/usr/bin/env python3
-"""Writes the rows of bodies (stdin) and the answers that are wanted (stdout), beside this file."""
+"""Writes the rows of bodies and standard gates (stdin) and the answers that are wanted (stdout), beside this file."""
 from pathlib import Path
 
 here = Path(__file__).parent
@@ -9,7 +9,28 @@ for bodies in lists:
     written = "".join(f" {p}:{q}" for p, q in bodies)
     rows.append("bodies" + (written or " "))
     answers.append(f"gates{written}, shared{written}")
-for wrong in ["", "bodies", "bodies 1", "bodies 1:", "bodies :1", "bodies 1:4294967296", "bodies 1:2 x:2", "body 1:2"]:
+# the standard gates in order: name, parameters, qubits, calls in the body
+gates = [
+    ("id", 0, 1, 1), ("p", 1, 1, 1), ("phase", 1, 1, 1), ("u1", 1, 1, 1),
+    ("z", 0, 1, 1), ("s", 0, 1, 1), ("t", 0, 1, 1), ("sdg", 0, 1, 1), ("tdg", 0, 1, 1),
+    ("x", 0, 1, 2), ("y", 0, 1, 2), ("h", 0, 1, 2), ("sx", 0, 1, 1),
+    ("rx", 1, 1, 2), ("ry", 1, 1, 2), ("rz", 1, 1, 2), ("u2", 2, 1, 2), ("u3", 3, 1, 2),
+    ("cx", 0, 2, 1), ("CX", 0, 2, 1), ("cy", 0, 2, 1), ("cz", 0, 2, 1), ("cp", 1, 2, 1), ("cphase", 1, 2, 1),
+    ("crx", 1, 2, 1), ("cry", 1, 2, 1), ("crz", 1, 2, 1), ("ch", 0, 2, 1),
+    ("swap", 0, 2, 3), ("ccx", 0, 3, 1), ("cswap", 0, 3, 1), ("cu", 4, 2, 2),
+]
+rows.append("table standard")
+answers.append("table" + "".join(f" {n}:{p}:{q}:{c}" for n, p, q, c in gates))
+for number, (name, parameters, qubits, _) in enumerate(gates):
+    rows.append(f"standard {name}")
+    answers.append(f"gate {number}, {parameters}:{qubits}")
+for unknown in ["", "X", "Cx", "cxx", "c", "u", "U", "gphase", "cnot", "id ", " id", "ïd"]:
+    rows.append(f"standard {unknown}")
+    answers.append("none")
+for wrong in ["", "table", "table ", "table all", "standard"]:
+    rows.append(wrong)
+    answers.append("no row")
+for wrong in ["bodies", "bodies 1", "bodies 1:", "bodies :1", "bodies 1:4294967296", "bodies 1:2 x:2", "body 1:2"]:
     rows.append(wrong)
     answers.append("no row")
 (here / "stdin").write_text("\n".join(rows) + "\n")

@@ -2,12 +2,16 @@
 //!
 //! It reads rows from the standard input, one a line, and prints the answer to each as one line. A row `bodies P:Q P:Q ..` is a list of
 //! bodies without calls, each with so many parameters and qubits: the answer has them as the bodies of a program, and as what they are
-//! shared with. A line that is no such row is answered with `no row`.
+//! shared with. A row `standard NAME` asks for the standard gate of that name: the answer is its number, its parameters and its qubits, or
+//! `none`. A row `table standard` is answered with all standard gates, `NAME:P:Q:C` with so many parameters, qubits and calls in its body.
+//! A line that is no such row is answered with `no row`.
 //!
 //! `gate_cases.py` writes the rows and the answers that are wanted.
 #![tactic(auto)]
 
 use qt_gate_calls::body::{GateBodies, GateBody};
+use qt_gates::named::{NAMES, standard};
+use qt_gates::table::standard_bodies;
 use qt_rows::answer::Answer;
 use qt_rows::cases::{Cases, answer_lines};
 use qt_rows::row::Row;
@@ -66,10 +70,44 @@ fn answer_bodies(alloc: Global, row: &mut Row<'_>, answer: &mut Answer) {
     }
 }
 
+fn tell_table(bodies: &[GateBody], answer: &mut Answer) {
+    answer.push_str("table");
+    for (name, body) in NAMES.iter().zip(bodies) {
+        let (parameters, qubits, calls) = (body.parameters, body.qubits, body.calls.len());
+        answer.push_str(" ");
+        answer.push_str(name);
+        write!(answer, ":{parameters}:{qubits}:{calls}");
+    }
+}
+
+/// `table standard`
+fn answer_table(alloc: Global, row: &mut Row<'_>, answer: &mut Answer) {
+    if row.rest != "standard" {
+        row.refuse();
+        return;
+    }
+    if let Some(bodies) = answer.given(standard_bodies(alloc)) {
+        tell_table(bodies.as_slice(), answer);
+    }
+}
+
+/// `standard NAME`
+fn answer_standard(row: &mut Row<'_>, answer: &mut Answer) {
+    match standard(row.rest) {
+        Some(gate) => {
+            let (number, parameters, qubits) = (gate.number, gate.parameters, gate.qubits);
+            write!(answer, "gate {number}, {parameters}:{qubits}");
+        }
+        None => answer.push_str("none"),
+    }
+}
+
 impl Cases for GateCases {
     fn answer(&mut self, alloc: Global, row: &mut Row<'_>, answer: &mut Answer) {
         match row.part(' ') {
             "bodies" => answer_bodies(alloc, row, answer),
+            "standard" => answer_standard(row, answer),
+            "table" => answer_table(alloc, row, answer),
             _ => row.refuse(),
         }
     }
