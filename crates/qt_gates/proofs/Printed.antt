@@ -1,12 +1,12 @@
--- The printed matrices by computing: both sides are lists of numbers.
+-- Printed matrices at given angles, by computing: both sides are lists of numbers.
 use Rattle.std.proofs.Common.{◌≡◌, ℕ, ◌+◌, ◌*◌, [], ◌∷◌, refl}
+use Rattle.std.specs.Prelude.{codes}
 use denote.Hole.Carrier.{hidden}
-use lib.Chars.{codes}
 use Rattle.qt_ring.specs.Ring.{plus, times, minus, conj, nil, one, imaginary, the_omega}
 use Rattle.qt_gate_calls.specs.Standard.{standard_gates}
 use Rattle.qt_gate_calls.specs.declared.angle.Angle.TheBlock.{hidden-the_row-Angle-0}
-use Rattle.qt_gates.specs.Printed.{alone, under_control, p_square, rx_square, ry_square, rz_square, u2_square}
-use Rattle.qt_gates.specs.Laws.{EachEighth, Prints, FixedGatesArePrinted, ControlledGatesArePrinted, PermutationsArePrinted, PhasesArePrinted, RotationsArePrinted, TurnsArePrinted}
+use Rattle.qt_gates.specs.Printed.{alone, under_control, rx_square, ry_square, rz_square}
+use Rattle.qt_gates.specs.Laws.{eighths, EachEighth, Prints, FixedGatesArePrinted, ControlledGatesArePrinted, PermutationsArePrinted, RotationsArePrinted, HalfTurnsArePrinted}
 
 pub fixed_gates : FixedGatesArePrinted
 unfolding standard_gates plus times minus conj nil one imaginary the_omega hidden hidden-the_row-Angle-0
@@ -20,59 +20,36 @@ pub permutations : PermutationsArePrinted
 unfolding standard_gates plus times minus conj nil one imaginary the_omega hidden hidden-the_row-Angle-0
 permutations = (refl, refl, refl)
 
-p_printed : EachEighth (λ k. Prints (codes "p") (k ∷ []) (alone (p_square k)))
-unfolding standard_gates plus times minus conj nil one imaginary the_omega hidden hidden-the_row-Angle-0
-p_printed = (refl, refl, refl, refl, refl, refl, refl, refl)
-
-phase_printed : EachEighth (λ k. Prints (codes "phase") (k ∷ []) (alone (p_square k)))
-unfolding standard_gates plus times minus conj nil one imaginary the_omega hidden hidden-the_row-Angle-0
-phase_printed = (refl, refl, refl, refl, refl, refl, refl, refl)
-
-u1_printed : EachEighth (λ k. Prints (codes "u1") (k ∷ []) (alone (p_square k)))
-unfolding standard_gates plus times minus conj nil one imaginary the_omega hidden hidden-the_row-Angle-0
-u1_printed = (refl, refl, refl, refl, refl, refl, refl, refl)
-
-cp_printed : EachEighth (λ k. Prints (codes "cp") (k ∷ []) (under_control (p_square k)))
-unfolding standard_gates plus times minus conj nil one imaginary the_omega hidden hidden-the_row-Angle-0
-cp_printed = (refl, refl, refl, refl, refl, refl, refl, refl)
-
-cphase_printed : EachEighth (λ k. Prints (codes "cphase") (k ∷ []) (under_control (p_square k)))
-unfolding standard_gates plus times minus conj nil one imaginary the_omega hidden hidden-the_row-Angle-0
-cphase_printed = (refl, refl, refl, refl, refl, refl, refl, refl)
-
-pub phases : PhasesArePrinted
-phases = (p_printed, phase_printed, u1_printed, cp_printed, cphase_printed)
-
-rx_printed : EachEighth (λ k. Prints (codes "rx") (2 * k ∷ []) (alone (rx_square k)))
+rx_printed : EachEighth (λ k. Prints (codes "rx") (eighths (2 * k) ∷ []) (alone (rx_square k)))
 unfolding standard_gates plus times minus conj nil one imaginary the_omega hidden hidden-the_row-Angle-0
 rx_printed = (refl, refl, refl, refl, refl, refl, refl, refl)
 
-ry_printed : EachEighth (λ k. Prints (codes "ry") (2 * k ∷ []) (alone (ry_square k)))
+ry_printed : EachEighth (λ k. Prints (codes "ry") (eighths (2 * k) ∷ []) (alone (ry_square k)))
 unfolding standard_gates plus times minus conj nil one imaginary the_omega hidden hidden-the_row-Angle-0
 ry_printed = (refl, refl, refl, refl, refl, refl, refl, refl)
 
-rz_printed : EachEighth (λ k. Prints (codes "rz") (2 * k ∷ []) (alone (rz_square k)))
+rz_printed : EachEighth (λ k. Prints (codes "rz") (eighths (2 * k) ∷ []) (alone (rz_square k)))
 unfolding standard_gates plus times minus conj nil one imaginary the_omega hidden hidden-the_row-Angle-0
 rz_printed = (refl, refl, refl, refl, refl, refl, refl, refl)
 
-crx_printed : EachEighth (λ k. Prints (codes "crx") (2 * k ∷ []) (under_control (rx_square k)))
+crx_printed : EachEighth (λ k. Prints (codes "crx") (eighths (2 * k) ∷ []) (under_control (rx_square k)))
 unfolding standard_gates plus times minus conj nil one imaginary the_omega hidden hidden-the_row-Angle-0
 crx_printed = (refl, refl, refl, refl, refl, refl, refl, refl)
 
-cry_printed : EachEighth (λ k. Prints (codes "cry") (2 * k ∷ []) (under_control (ry_square k)))
+cry_printed : EachEighth (λ k. Prints (codes "cry") (eighths (2 * k) ∷ []) (under_control (ry_square k)))
 unfolding standard_gates plus times minus conj nil one imaginary the_omega hidden hidden-the_row-Angle-0
 cry_printed = (refl, refl, refl, refl, refl, refl, refl, refl)
 
-crz_printed : EachEighth (λ k. Prints (codes "crz") (2 * k ∷ []) (under_control (rz_square k)))
+crz_printed : EachEighth (λ k. Prints (codes "crz") (eighths (2 * k) ∷ []) (under_control (rz_square k)))
 unfolding standard_gates plus times minus conj nil one imaginary the_omega hidden hidden-the_row-Angle-0
 crz_printed = (refl, refl, refl, refl, refl, refl, refl, refl)
 
 pub rotations : RotationsArePrinted
 rotations = (rx_printed, ry_printed, rz_printed, crx_printed, cry_printed, crz_printed)
 
-pub turns : TurnsArePrinted
+pub half_turns : HalfTurnsArePrinted
 unfolding standard_gates plus times minus conj nil one imaginary the_omega hidden hidden-the_row-Angle-0
-turns = (
+half_turns = (
   (refl, refl, refl, refl, refl, refl, refl, refl),
   (refl, refl, refl, refl, refl, refl, refl, refl),
   (refl, refl, refl, refl, refl, refl, refl, refl),

@@ -64,9 +64,9 @@ under_control m =
 abbrev pub id_square : Square
 id_square = diagonal one one
 
--- [[1, 0], [0, e^{iλ}]], for λ = kπ/4
-abbrev pub p_square : ℕ → Square
-p_square k = diagonal one (turned k)
+-- [[1, 0], [0, e^{iλ}]], by the number e^{iλ}
+abbrev pub p_square : Omega → Square
+p_square e = diagonal one e
 
 -- [[0, 1], [1, 0]]
 abbrev pub x_square : Square
@@ -102,6 +102,17 @@ u2_square k j =
     square 1
     (times root_two (turned_back k)) (minus (times root_two (turned j)))
     (times root_two (turned_back j)) (times root_two (turned k))
+
+-- U(θ, φ, λ) = [[1 + a, −i·c·(1 − a)], [i·b·(1 − a), b·c·(1 + a)]] / 2, by a = e^{iθ}, b = e^{iφ}, c = e^{iλ}
+abbrev pub u_square : Omega → Omega → Omega → Square
+u_square a b c =
+    square 1
+    (plus one a) (times (minus imaginary) (times c (plus one (minus a))))
+    (times imaginary (times b (plus one (minus a)))) (times (times b c) (plus one a))
+
+-- a matrix times a number
+abbrev pub scaled : Omega → Square → Square
+scaled g m = square m.halvings (times m.a g) (times m.b g) (times m.c g) (times m.d g)
 
 -- ---- the gates that only exchange basis states
 

@@ -16,10 +16,16 @@ use sqlite_items::Items;
 use std::alloc::{AllocError, Global};
 
 /// The numbers of the rows that other rows call.
-pub const P: u32 = 1;
-pub const X: u32 = 9;
-pub const CX: u32 = 18;
-pub const SWAP: u32 = 28;
+pub const P_ROW: u32 = 1;
+pub const Z_ROW: u32 = 4;
+pub const X_ROW: u32 = 9;
+pub const Y_ROW: u32 = 10;
+pub const H_ROW: u32 = 11;
+pub const RX_ROW: u32 = 13;
+pub const RY_ROW: u32 = 14;
+pub const RZ_ROW: u32 = 15;
+const CX_ROW: u32 = 18;
+const SWAP_ROW: u32 = 28;
 
 /// A body of one call.
 fn of_one(
@@ -105,7 +111,7 @@ pub fn p_at(alloc: Global, units: i64) -> Result<GateBody, AllocError>
     requires { IsPhase units }
     ensures { IfOk result (λ made. made ≡ spec.p_at (variant.Units units)) }
 {
-    let call = row_at(alloc, P, fixed(units))?;
+    let call = row_at(alloc, P_ROW, fixed(units))?;
     of_one(alloc, 0, 1, call)
 }
 
@@ -237,9 +243,9 @@ pub fn controlled_turn(alloc: Global, number: u32) -> Result<GateBody, AllocErro
 pub fn swap_gate(alloc: Global) -> Result<GateBody, AllocError>
     ensures { IfOk result (λ made. made ≡ spec.swap_gate) }
 {
-    let first = row_on_two(alloc, CX, 0, 1)?;
-    let second = row_on_two(alloc, CX, 1, 0)?;
-    let third = row_on_two(alloc, CX, 0, 1)?;
+    let first = row_on_two(alloc, CX_ROW, 0, 1)?;
+    let second = row_on_two(alloc, CX_ROW, 1, 0)?;
+    let third = row_on_two(alloc, CX_ROW, 0, 1)?;
     let calls = lists::three(alloc, first, second, third)?;
     Ok(GateBody {
         parameters: 0,
@@ -256,7 +262,7 @@ pub fn ccx_gate(alloc: Global) -> Result<GateBody, AllocError>
     let qubits = lists::three(alloc, 0, 1, 2)?;
     let call = BodyCall {
         modifiers,
-        gate: Called::Gate { number: X },
+        gate: Called::Gate { number: X_ROW },
         angles: Items::new(alloc),
         qubits,
         operators: 0,
@@ -269,7 +275,7 @@ pub fn cswap_gate(alloc: Global) -> Result<GateBody, AllocError>
     ensures { IfOk result (λ made. made ≡ spec.cswap_gate) }
 {
     let qubits = lists::three(alloc, 0, 1, 2)?;
-    let gate = Called::Gate { number: SWAP };
+    let gate = Called::Gate { number: SWAP_ROW };
     let call = controlled(alloc, gate, Items::new(alloc), qubits)?;
     of_one(alloc, 0, 3, call)
 }
@@ -289,7 +295,7 @@ pub fn cu_gate(alloc: Global) -> Result<GateBody, AllocError>
     ensures { IfOk result (λ made. made ≡ spec.cu_gate) }
 {
     let gamma = last_less_half(alloc)?;
-    let phase = row_at(alloc, P, gamma)?;
+    let phase = row_at(alloc, P_ROW, gamma)?;
     let call = controlled_u(alloc)?;
     of_two(alloc, 4, 2, phase, call)
 }

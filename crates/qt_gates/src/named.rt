@@ -5,7 +5,7 @@ ghost use Rattle.std.specs.List.{zip};
 ghost use Rattle.qt_gates.specs.Named as spec;
 
 /// A standard gate: the number of its row in the table, and how many parameters and qubits it has.
-#[derive(Clone, Copy, Debug, PartialEq, Eq)]
+#[derive(Clone, Copy)]
 pub struct StandardGate {
     pub number: u32,
     pub parameters: u32,

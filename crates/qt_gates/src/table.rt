@@ -5,8 +5,9 @@ ghost use Rattle.qt_gate_calls.specs.Standard as spec;
 
 use crate::angles::{EIGHTH_TURN, HALF_TURN, QUARTER_TURN};
 use crate::bodies::{
-    X, ccx_gate, controlled_fixed, controlled_turn, cswap_gate, cu_gate, h_gate, id_gate, p_at,
-    p_gate, rx_gate, ry_gate, rz_gate, swap_gate, sx_gate, u2_gate, u3_gate, x_gate, y_gate,
+    H_ROW, P_ROW, RX_ROW, RY_ROW, RZ_ROW, X_ROW, Y_ROW, Z_ROW, ccx_gate, controlled_fixed,
+    controlled_turn, cswap_gate, cu_gate, h_gate, id_gate, p_at, p_gate, rx_gate, ry_gate, rz_gate,
+    swap_gate, sx_gate, u2_gate, u3_gate, x_gate, y_gate,
 };
 use crate::lists::{four, joined};
 use qt_gate_calls::body::GateBody;
@@ -14,21 +15,14 @@ use qt_outside::faults::OutOfMemory;
 use sqlite_items::Items;
 use std::alloc::{AllocError, Global};
 
-/// The numbers of the other rows that rows under control call.
-const P: u32 = 1;
-const Z: u32 = 4;
-const Y: u32 = 10;
-const H: u32 = 11;
-const RX: u32 = 13;
-const RY: u32 = 14;
-const RZ: u32 = 15;
-
 /// `id`, and p by its three names.
 fn id_to_u1(alloc: Global) -> Result<Items<GateBody>, AllocError>
     ensures { IfOk result (λ made. made ≡ spec.id_gate ∷ spec.p_gate ∷ spec.p_gate ∷ spec.p_gate ∷ []) }
 {
     let id = id_gate(alloc)?;
-    let (p, phase, u1) = (p_gate(alloc)?, p_gate(alloc)?, p_gate(alloc)?);
+    let p = p_gate(alloc)?;
+    let phase = p_gate(alloc)?;
+    let u1 = p_gate(alloc)?;
     four(alloc, id, p, phase, u1)
 }
 
@@ -73,8 +67,8 @@ fn u2_to_cx(alloc: Global) -> Result<Items<GateBody>, AllocError>
 {
     let u2 = u2_gate(alloc)?;
     let u3 = u3_gate(alloc)?;
-    let cx = controlled_fixed(alloc, X)?;
-    let cx_again = controlled_fixed(alloc, X)?;
+    let cx = controlled_fixed(alloc, X_ROW)?;
+    let cx_again = controlled_fixed(alloc, X_ROW)?;
     four(alloc, u2, u3, cx, cx_again)
 }
 
@@ -84,10 +78,10 @@ fn cy_to_cphase(alloc: Global) -> Result<Items<GateBody>, AllocError>
         made ≡ spec.controlled_row 10 [] spec.y_gate ∷ spec.controlled_row 4 [] (spec.p_at spec.half_turn)
             ∷ spec.controlled_row 1 (spec.given 0 ∷ []) spec.p_gate ∷ spec.controlled_row 1 (spec.given 0 ∷ []) spec.p_gate ∷ []) }
 {
-    let cy = controlled_fixed(alloc, Y)?;
-    let cz = controlled_fixed(alloc, Z)?;
-    let cp = controlled_turn(alloc, P)?;
-    let cphase = controlled_turn(alloc, P)?;
+    let cy = controlled_fixed(alloc, Y_ROW)?;
+    let cz = controlled_fixed(alloc, Z_ROW)?;
+    let cp = controlled_turn(alloc, P_ROW)?;
+    let cphase = controlled_turn(alloc, P_ROW)?;
     four(alloc, cy, cz, cp, cphase)
 }
 
@@ -97,10 +91,10 @@ fn crx_to_ch(alloc: Global) -> Result<Items<GateBody>, AllocError>
         made ≡ spec.controlled_row 13 (spec.given 0 ∷ []) spec.rx_gate ∷ spec.controlled_row 14 (spec.given 0 ∷ []) spec.ry_gate
             ∷ spec.controlled_row 15 (spec.given 0 ∷ []) spec.rz_gate ∷ spec.controlled_row 11 [] spec.h_gate ∷ []) }
 {
-    let crx = controlled_turn(alloc, RX)?;
-    let cry = controlled_turn(alloc, RY)?;
-    let crz = controlled_turn(alloc, RZ)?;
-    let ch = controlled_fixed(alloc, H)?;
+    let crx = controlled_turn(alloc, RX_ROW)?;
+    let cry = controlled_turn(alloc, RY_ROW)?;
+    let crz = controlled_turn(alloc, RZ_ROW)?;
+    let ch = controlled_fixed(alloc, H_ROW)?;
     four(alloc, crx, cry, crz, ch)
 }
 

@@ -1,4 +1,5 @@
-use Rattle.qt_gates.proofs.Printed.{fixed_gates, controlled_gates, permutations, phases, rotations, turns}
+use Rattle.qt_gates.proofs.Printed.{fixed_gates, controlled_gates, permutations, rotations, half_turns}
+use Rattle.qt_gates.proofs.Turns.{phases, turns, controlled_turns}
 use Rattle.qt_gates.proofs.laws.matrices.Goals as goal
 
 pub returns-clause-fixed : goal.returns-clause-fixed
@@ -16,5 +17,11 @@ returns-clause-phases c = phases
 pub returns-clause-rotations : goal.returns-clause-rotations
 returns-clause-rotations c = rotations
 
+pub returns-clause-half_turns : goal.returns-clause-half_turns
+returns-clause-half_turns c = half_turns
+
 pub returns-clause-turns : goal.returns-clause-turns
 returns-clause-turns c = turns
+
+pub returns-clause-controlled_turns : goal.returns-clause-controlled_turns
+returns-clause-controlled_turns c = controlled_turns
