@@ -72,11 +72,9 @@ fn answer_bodies(alloc: Global, row: &mut Row<'_>, answer: &mut Answer) {
 
 fn tell_table(bodies: &[GateBody], answer: &mut Answer) {
     answer.push_str("table");
-    for (name, body) in NAMES.iter().zip(bodies) {
+    for (&name, body) in NAMES.iter().zip(bodies) {
         let (parameters, qubits, calls) = (body.parameters, body.qubits, body.calls.len());
-        answer.push_str(" ");
-        answer.push_str(name);
-        write!(answer, ":{parameters}:{qubits}:{calls}");
+        write!(answer, " {name}:{parameters}:{qubits}:{calls}");
     }
 }
 
