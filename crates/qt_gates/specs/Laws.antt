@@ -1,6 +1,6 @@
 -- The standard gates have the matrices that are printed (OpenQASM 3.0 live specification, "Standard library"; Cross et al. 2022). The
 -- matrix of a call is that of its body, a product of matrices of U and gphase.
-use Rattle.std.specs.Prelude.{◌≡◌, ℕ, zero, suc, ◌+◌, ◌*◌, ◌^◌, pos, if◌then◌else◌, false, true, List, [], ◌∷◌, ◌++◌, map, Some, bytes_eq, codes}
+use Rattle.std.specs.Prelude.{◌≡◌, ℕ, zero, suc, ◌+◌, ◌*◌, ◌^◌, pos, neg_ℤ, if◌then◌else◌, false, true, List, [], ◌∷◌, ◌++◌, map, Some, bytes_eq, codes}
 use Rattle.qt_ring.specs.declared.omega.Omega.{Omega}
 use Rattle.qt_ring.specs.Ring.{times, two_to, root}
 use Rattle.qt_ring.specs.Places.{Bits}
@@ -9,7 +9,7 @@ use Rattle.qt_gate_calls.specs.declared.body.Called.TheVariants as called
 use Rattle.qt_gate_calls.specs.Units.{KnownUnits, of_one, of_two, sum_of, difference_of, negative_of, quotient_of, circle}
 use Rattle.qt_gate_calls.specs.Matrices.{matrices_of, call_matrix}
 use Rattle.qt_gate_calls.specs.Standard.{StandardGate, standard_gates, standard_bodies}
-use Rattle.qt_gates.specs.Printed.{PrintedMatrix, alone, under_control, id_square, p_square, x_square, y_square, h_square, sx_square, rx_square, ry_square, rz_square, u2_square, u_square, scaled, swap_matrix, ccx_matrix, cswap_matrix}
+use Rattle.qt_gates.specs.Printed.{PrintedMatrix, Square, alone, under_control, id_square, p_square, x_square, y_square, h_square, sx_square, rz_square, u_square, scaled, swap_matrix, ccx_matrix, cswap_matrix}
 
 -- ---- calls of standard gates
 
@@ -91,39 +91,47 @@ PhasesArePrinted =
     × Prints (codes "cp") (lambda ∷ []) (under_control (p_square (circle lambda)))
     × Prints (codes "cphase") (lambda ∷ []) (under_control (p_square (circle lambda)))
 
--- rotations, whose angle is halved, at 2·kπ/4, for each k
+-- rz at 2·kπ/4, for each k: its phase is a multiple of π/4 only at such angles
 abbrev pub RotationsArePrinted : Type 0
 RotationsArePrinted =
-    EachEighth (λ k. Prints (codes "rx") (eighths (2 * k) ∷ []) (alone (rx_square k)))
-    × EachEighth (λ k. Prints (codes "ry") (eighths (2 * k) ∷ []) (alone (ry_square k)))
-    × EachEighth (λ k. Prints (codes "rz") (eighths (2 * k) ∷ []) (alone (rz_square k)))
-    × EachEighth (λ k. Prints (codes "crx") (eighths (2 * k) ∷ []) (under_control (rx_square k)))
-    × EachEighth (λ k. Prints (codes "cry") (eighths (2 * k) ∷ []) (under_control (ry_square k)))
+    EachEighth (λ k. Prints (codes "rz") (eighths (2 * k) ∷ []) (alone (rz_square k)))
     × EachEighth (λ k. Prints (codes "crz") (eighths (2 * k) ∷ []) (under_control (rz_square k)))
 
--- u2 at φ = kπ/4 and λ = (k + 2·j)π/4, for each k and j: its phase is a multiple of π/4 only where φ + λ is an even one
-abbrev pub HalfTurnsArePrinted : Type 0
-HalfTurnsArePrinted =
-    EachEighth (λ j. EachEighth (λ k. Prints (codes "u2") (eighths k ∷ eighths (k + 2 * j) ∷ []) (alone (u2_square (k + j) j))))
+-- ---- U times a number: at every angle, as above
 
--- −(θ + φ + λ)/2
-abbrev pub half_sum_back : KnownUnits → KnownUnits → KnownUnits → KnownUnits
-half_sum_back theta phi lambda =
-    of_one (quotient_of (pos 2)) (of_one negative_of (of_two sum_of (of_two sum_of theta phi) lambda))
+-- −a/2
+abbrev pub half_back : KnownUnits → KnownUnits
+half_back a = of_one (quotient_of (pos 2)) (of_one negative_of a)
+
+-- a + b
+abbrev pub sum : KnownUnits → KnownUnits → KnownUnits
+sum a b = of_two sum_of a b
 
 -- γ − θ/2
 abbrev pub less_half : KnownUnits → KnownUnits → KnownUnits
 less_half gamma theta = of_two difference_of gamma (of_one (quotient_of (pos 2)) theta)
 
--- u3 at every angle: U times e^{−i(θ+φ+λ)/2}; and cu: U times e^{i(γ−θ/2)}, under control
+-- −π/2
+abbrev pub quarter_back : KnownUnits
+quarter_back = Some (neg_ℤ (pos (2 ^ 31)))
+
+-- e^{iγ}·U(θ, φ, λ)
+abbrev pub turned_square : KnownUnits → KnownUnits → KnownUnits → KnownUnits → Square
+turned_square gamma theta phi lambda = scaled (circle gamma) (u_square (circle theta) (circle phi) (circle lambda))
+
+-- e^{−iθ/2}·U(θ, −π/2, π/2), e^{−iθ/2}·U(θ, 0, 0), e^{−i(φ+λ+π/2)/2}·U(π/2, φ, λ), e^{−i(θ+φ+λ)/2}·U(θ, φ, λ)
 abbrev pub TurnsArePrinted : Type 0
 TurnsArePrinted =
     (theta phi lambda : KnownUnits) →
-    Prints (codes "u3") (theta ∷ phi ∷ lambda ∷ [])
-    (alone (scaled (circle (half_sum_back theta phi lambda)) (u_square (circle theta) (circle phi) (circle lambda))))
+    Prints (codes "rx") (theta ∷ []) (alone (turned_square (half_back theta) theta quarter_back (eighths 2)))
+    × Prints (codes "ry") (theta ∷ []) (alone (turned_square (half_back theta) theta (eighths 0) (eighths 0)))
+    × Prints (codes "u2") (phi ∷ lambda ∷ []) (alone (turned_square (half_back (sum (sum phi lambda) (eighths 2))) (eighths 2) phi lambda))
+    × Prints (codes "u3") (theta ∷ phi ∷ lambda ∷ []) (alone (turned_square (half_back (sum (sum theta phi) lambda)) theta phi lambda))
 
+-- rx and ry under control, and e^{i(γ−θ/2)}·U(θ, φ, λ) under control
 abbrev pub ControlledTurnsArePrinted : Type 0
 ControlledTurnsArePrinted =
     (theta phi lambda gamma : KnownUnits) →
-    Prints (codes "cu") (theta ∷ phi ∷ lambda ∷ gamma ∷ [])
-    (under_control (scaled (circle (less_half gamma theta)) (u_square (circle theta) (circle phi) (circle lambda))))
+    Prints (codes "crx") (theta ∷ []) (under_control (turned_square (half_back theta) theta quarter_back (eighths 2)))
+    × Prints (codes "cry") (theta ∷ []) (under_control (turned_square (half_back theta) theta (eighths 0) (eighths 0)))
+    × Prints (codes "cu") (theta ∷ phi ∷ lambda ∷ gamma ∷ []) (under_control (turned_square (less_half gamma theta) theta phi lambda))

@@ -17,14 +17,6 @@ turned k = root k
 abbrev pub turned_back : ℕ → Omega
 turned_back k = conj (root k)
 
--- 2·cos(kπ/4) = e^{ikπ/4} + e^{−ikπ/4}
-abbrev pub twice_cos : ℕ → Omega
-twice_cos k = plus (turned k) (turned_back k)
-
--- 2·sin(kπ/4) = −i·(e^{ikπ/4} − e^{−ikπ/4})
-abbrev pub twice_sin : ℕ → Omega
-twice_sin k = times (minus imaginary) (plus (turned k) (minus (turned_back k)))
-
 -- ---- matrices of two rows
 
 -- [[a, b], [c, d]] / 2^halvings
@@ -52,10 +44,10 @@ under_control m =
     record {
       halvings = m.halvings;
       rows =
-        (unit ∷ nil ∷ nil ∷ nil ∷ []) ∷
-        (nil ∷ unit ∷ nil ∷ nil ∷ []) ∷
-        (nil ∷ nil ∷ m.a ∷ m.b ∷ []) ∷
-        (nil ∷ nil ∷ m.c ∷ m.d ∷ []) ∷ [];
+          (unit ∷ nil ∷ nil ∷ nil ∷ []) ∷
+          (nil ∷ unit ∷ nil ∷ nil ∷ []) ∷
+          (nil ∷ nil ∷ m.a ∷ m.b ∷ []) ∷
+          (nil ∷ nil ∷ m.c ∷ m.d ∷ []) ∷ [];
     }
 
 -- ---- the gates on one qubit
@@ -84,24 +76,9 @@ h_square = square 1 root_two root_two root_two (minus root_two)
 abbrev pub sx_square : Square
 sx_square = square 1 (plus one imaginary) (plus one (minus imaginary)) (plus one (minus imaginary)) (plus one imaginary)
 
--- [[cos(θ/2), −i·sin(θ/2)], [−i·sin(θ/2), cos(θ/2)]], for θ/2 = kπ/4
-abbrev pub rx_square : ℕ → Square
-rx_square k = let side = times (minus imaginary) (twice_sin k) in square 1 (twice_cos k) side side (twice_cos k)
-
--- [[cos(θ/2), −sin(θ/2)], [sin(θ/2), cos(θ/2)]], for θ/2 = kπ/4
-abbrev pub ry_square : ℕ → Square
-ry_square k = square 1 (twice_cos k) (minus (twice_sin k)) (twice_sin k) (twice_cos k)
-
 -- [[e^{−iλ/2}, 0], [0, e^{iλ/2}]], for λ/2 = kπ/4
 abbrev pub rz_square : ℕ → Square
 rz_square k = diagonal (turned_back k) (turned k)
-
--- [[e^{−i(φ+λ)/2}, −e^{−i(φ−λ)/2}], [e^{i(φ−λ)/2}, e^{i(φ+λ)/2}]] / √2, for (φ+λ)/2 = kπ/4 and (λ−φ)/2 = jπ/4
-abbrev pub u2_square : ℕ → ℕ → Square
-u2_square k j =
-    square 1
-    (times root_two (turned_back k)) (minus (times root_two (turned j)))
-    (times root_two (turned_back j)) (times root_two (turned k))
 
 -- U(θ, φ, λ) = [[1 + a, −i·c·(1 − a)], [i·b·(1 − a), b·c·(1 + a)]] / 2, by a = e^{iθ}, b = e^{iφ}, c = e^{iλ}
 abbrev pub u_square : Omega → Omega → Omega → Square

@@ -17,14 +17,23 @@ use std::alloc::{AllocError, Global};
 
 /// The numbers of the rows that other rows call.
 pub const P_ROW: u32 = 1;
+
 pub const Z_ROW: u32 = 4;
+
 pub const X_ROW: u32 = 9;
+
 pub const Y_ROW: u32 = 10;
+
 pub const H_ROW: u32 = 11;
+
 pub const RX_ROW: u32 = 13;
+
 pub const RY_ROW: u32 = 14;
+
 pub const RZ_ROW: u32 = 15;
+
 const CX_ROW: u32 = 18;
+
 const SWAP_ROW: u32 = 28;
 
 /// A body of one call.
@@ -161,12 +170,7 @@ pub fn sx_gate(alloc: Global) -> Result<GateBody, AllocError>
 pub fn rx_gate(alloc: Global) -> Result<GateBody, AllocError>
     ensures { IfOk result (λ made. made ≡ spec.rx_gate) }
 {
-    let call = turn(
-        alloc,
-        given(0),
-        fixed(-QUARTER_TURN),
-        fixed(QUARTER_TURN),
-    )?;
+    let call = turn(alloc, given(0), fixed(-QUARTER_TURN), fixed(QUARTER_TURN))?;
     let gamma = half_back(alloc, given(0))?;
     turn_and_phase(alloc, 1, call, gamma)
 }

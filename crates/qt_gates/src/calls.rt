@@ -42,12 +42,7 @@ pub fn controlled(
 }
 
 /// U on the first qubit.
-pub fn turn(
-    alloc: Global,
-    theta: Angle,
-    phi: Angle,
-    lambda: Angle,
-) -> Result<BodyCall, AllocError>
+pub fn turn(alloc: Global, theta: Angle, phi: Angle, lambda: Angle) -> Result<BodyCall, AllocError>
     ensures { IfOk result (λ made. made ≡ spec.u theta phi lambda (0 ∷ [])) }
 {
     let angles = lists::three(alloc, theta, phi, lambda)?;

@@ -24,12 +24,7 @@ pub fn two<T: Drop>(alloc: Global, first: T, second: T) -> Result<Items<T>, Allo
 }
 
 /// The list of three items.
-pub fn three<T: Drop>(
-    alloc: Global,
-    first: T,
-    second: T,
-    third: T,
-) -> Result<Items<T>, AllocError>
+pub fn three<T: Drop>(alloc: Global, first: T, second: T, third: T) -> Result<Items<T>, AllocError>
     ensures { IfOk result (λ made. made ≡ first ∷ second ∷ third ∷ []) }
 {
     let mut list = two(alloc, first, second)?;

@@ -76,7 +76,7 @@ fn u2_to_cx(alloc: Global) -> Result<Items<GateBody>, AllocError>
 fn cy_to_cphase(alloc: Global) -> Result<Items<GateBody>, AllocError>
     ensures { IfOk result (λ made.
         made ≡ spec.controlled_row 10 [] spec.y_gate ∷ spec.controlled_row 4 [] (spec.p_at spec.half_turn)
-            ∷ spec.controlled_row 1 (spec.given 0 ∷ []) spec.p_gate ∷ spec.controlled_row 1 (spec.given 0 ∷ []) spec.p_gate ∷ []) }
+        ∷ spec.controlled_row 1 (spec.given 0 ∷ []) spec.p_gate ∷ spec.controlled_row 1 (spec.given 0 ∷ []) spec.p_gate ∷ []) }
 {
     let cy = controlled_fixed(alloc, Y_ROW)?;
     let cz = controlled_fixed(alloc, Z_ROW)?;
@@ -89,7 +89,7 @@ fn cy_to_cphase(alloc: Global) -> Result<Items<GateBody>, AllocError>
 fn crx_to_ch(alloc: Global) -> Result<Items<GateBody>, AllocError>
     ensures { IfOk result (λ made.
         made ≡ spec.controlled_row 13 (spec.given 0 ∷ []) spec.rx_gate ∷ spec.controlled_row 14 (spec.given 0 ∷ []) spec.ry_gate
-            ∷ spec.controlled_row 15 (spec.given 0 ∷ []) spec.rz_gate ∷ spec.controlled_row 11 [] spec.h_gate ∷ []) }
+        ∷ spec.controlled_row 15 (spec.given 0 ∷ []) spec.rz_gate ∷ spec.controlled_row 11 [] spec.h_gate ∷ []) }
 {
     let crx = controlled_turn(alloc, RX_ROW)?;
     let cry = controlled_turn(alloc, RY_ROW)?;
@@ -113,7 +113,7 @@ fn swap_to_cu(alloc: Global) -> Result<Items<GateBody>, AllocError>
 fn first_quarter(alloc: Global) -> Result<Items<GateBody>, AllocError>
     ensures { IfOk result (λ made.
         made ≡ spec.id_gate ∷ spec.p_gate ∷ spec.p_gate ∷ spec.p_gate
-            ∷ spec.p_at spec.half_turn ∷ spec.p_at spec.quarter_turn ∷ spec.p_at spec.eighth_turn ∷ spec.p_at spec.quarter_back ∷ []) }
+        ∷ spec.p_at spec.half_turn ∷ spec.p_at spec.quarter_turn ∷ spec.p_at spec.eighth_turn ∷ spec.p_at spec.quarter_back ∷ []) }
 {
     joined(id_to_u1(alloc)?, z_to_sdg(alloc)?)
 }
@@ -122,7 +122,7 @@ fn first_quarter(alloc: Global) -> Result<Items<GateBody>, AllocError>
 fn second_quarter(alloc: Global) -> Result<Items<GateBody>, AllocError>
     ensures { IfOk result (λ made.
         made ≡ spec.p_at spec.eighth_back ∷ spec.x_gate ∷ spec.y_gate ∷ spec.h_gate
-            ∷ spec.sx_gate ∷ spec.rx_gate ∷ spec.ry_gate ∷ spec.rz_gate ∷ []) }
+        ∷ spec.sx_gate ∷ spec.rx_gate ∷ spec.ry_gate ∷ spec.rz_gate ∷ []) }
 {
     joined(tdg_to_h(alloc)?, sx_to_rz(alloc)?)
 }
@@ -131,8 +131,8 @@ fn second_quarter(alloc: Global) -> Result<Items<GateBody>, AllocError>
 fn third_quarter(alloc: Global) -> Result<Items<GateBody>, AllocError>
     ensures { IfOk result (λ made.
         made ≡ spec.u2_gate ∷ spec.u3_gate ∷ spec.controlled_row 9 [] spec.x_gate ∷ spec.controlled_row 9 [] spec.x_gate
-            ∷ spec.controlled_row 10 [] spec.y_gate ∷ spec.controlled_row 4 [] (spec.p_at spec.half_turn)
-            ∷ spec.controlled_row 1 (spec.given 0 ∷ []) spec.p_gate ∷ spec.controlled_row 1 (spec.given 0 ∷ []) spec.p_gate ∷ []) }
+        ∷ spec.controlled_row 10 [] spec.y_gate ∷ spec.controlled_row 4 [] (spec.p_at spec.half_turn)
+        ∷ spec.controlled_row 1 (spec.given 0 ∷ []) spec.p_gate ∷ spec.controlled_row 1 (spec.given 0 ∷ []) spec.p_gate ∷ []) }
 {
     joined(u2_to_cx(alloc)?, cy_to_cphase(alloc)?)
 }
@@ -141,8 +141,8 @@ fn third_quarter(alloc: Global) -> Result<Items<GateBody>, AllocError>
 fn last_quarter(alloc: Global) -> Result<Items<GateBody>, AllocError>
     ensures { IfOk result (λ made.
         made ≡ spec.controlled_row 13 (spec.given 0 ∷ []) spec.rx_gate ∷ spec.controlled_row 14 (spec.given 0 ∷ []) spec.ry_gate
-            ∷ spec.controlled_row 15 (spec.given 0 ∷ []) spec.rz_gate ∷ spec.controlled_row 11 [] spec.h_gate
-            ∷ spec.swap_gate ∷ spec.ccx_gate ∷ spec.cswap_gate ∷ spec.cu_gate ∷ []) }
+        ∷ spec.controlled_row 15 (spec.given 0 ∷ []) spec.rz_gate ∷ spec.controlled_row 11 [] spec.h_gate
+        ∷ spec.swap_gate ∷ spec.ccx_gate ∷ spec.cswap_gate ∷ spec.cu_gate ∷ []) }
 {
     joined(crx_to_ch(alloc)?, swap_to_cu(alloc)?)
 }

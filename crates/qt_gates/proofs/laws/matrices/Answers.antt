@@ -1,4 +1,4 @@
-use Rattle.qt_gates.proofs.Printed.{fixed_gates, controlled_gates, permutations, rotations, half_turns}
+use Rattle.qt_gates.proofs.Printed.{fixed_gates, controlled_gates, permutations, rotations}
 use Rattle.qt_gates.proofs.Turns.{phases, turns, controlled_turns}
 use Rattle.qt_gates.proofs.laws.matrices.Goals as goal
 
@@ -16,9 +16,6 @@ returns-clause-phases c = phases
 
 pub returns-clause-rotations : goal.returns-clause-rotations
 returns-clause-rotations c = rotations
-
-pub returns-clause-half_turns : goal.returns-clause-half_turns
-returns-clause-half_turns c = half_turns
 
 pub returns-clause-turns : goal.returns-clause-turns
 returns-clause-turns c = turns
