@@ -1,0 +1,16 @@
+//! Expressions that are typed.
+
+use qt_phase::phase::Phase;
+use qt_typed::expression::{TypedExpr, TypedPhase};
+use qt_value::types::ValueType;
+
+/// An expression that is typed.
+#[derive(Drop)]
+pub enum Operand {
+    /// One whose value has a type.
+    Value { kind: ValueType, form: TypedExpr },
+    /// A phase that is known.
+    Phase { phase: Phase },
+    /// A phase that rests on variables.
+    Open { form: TypedPhase },
+}
