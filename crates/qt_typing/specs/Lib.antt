@@ -5,3 +5,6 @@ pub mod Sorts
 pub mod Indexes
 pub mod Operators
 pub mod Expressions
+pub mod Qubits
+pub mod Targets
+pub mod Calls
