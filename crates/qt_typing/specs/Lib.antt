@@ -8,3 +8,8 @@ pub mod Expressions
 pub mod Qubits
 pub mod Targets
 pub mod Calls
+pub mod Declarations
+pub mod Tokens
+pub mod Statements
+pub mod Subroutines
+pub mod Programs
