@@ -1,0 +1,2 @@
+mod Rolls
+mod examples
