@@ -1,7 +1,9 @@
 -- The definitions at the layers of a tree: what each says of a form, by what it says of the parts.
 use Rattle.std.proofs.Common.{◌≡◌, ℕ, Bool, List, Option, refl, ap}
 use Rattle.qt_const_rules.specs.declared.consts.Entry.{Entry}
+use Rattle.qt_const_rules.specs.declared.modes.Mode.{Mode}
 use Rattle.qt_const_rules.specs.declared.sorts.Sort.{Sort}
+use Rattle.qt_value.specs.declared.constant.ConstValue.{ConstValue}
 use Rattle.qt_const.specs.Value.{Reading, TypeReading, IndexReading, reading_of, index_reading, type_reading, range_reading}
 use Rattle.qt_const.specs.Value as value
 use Rattle.qt_tree.specs.declared.expression.Expr.{Expr, roll-Expr}
@@ -86,10 +88,27 @@ tokens_scalar layer = fold-roll-Scalar ℕ ℕ ℕ ℕ tokens.expr_step tokens.i
 pub tokens_range : (start step end : Option Expr) → fold-Range ℕ ℕ ℕ ℕ tokens.expr_step tokens.index_step tokens.scalar_step tokens.range_step (roll-Range (record { start = start; step = step; end = end })) ≡ tokens.range_step (map-Range Expr Index Scalar Range ℕ ℕ ℕ ℕ (fold-Expr ℕ ℕ ℕ ℕ tokens.expr_step tokens.index_step tokens.scalar_step tokens.range_step) (fold-Index ℕ ℕ ℕ ℕ tokens.expr_step tokens.index_step tokens.scalar_step tokens.range_step) (fold-Scalar ℕ ℕ ℕ ℕ tokens.expr_step tokens.index_step tokens.scalar_step tokens.range_step) (fold-Range ℕ ℕ ℕ ℕ tokens.expr_step tokens.index_step tokens.scalar_step tokens.range_step) (record { start = start; step = step; end = end }))
 tokens_range start step end = fold-roll-Range ℕ ℕ ℕ ℕ tokens.expr_step tokens.index_step tokens.scalar_step tokens.range_step (record { start = start; step = step; end = end })
 
+-- ---- applied to what they read
+
+pub value_applied : (k : List Entry) (m : Mode) (layer : o.Expr-F Expr Index Scalar Range) → (fold-Expr Reading IndexReading TypeReading IndexReading (value.expr_step k) value.index_step value.scalar_step value.range_step (roll-Expr layer)).value m ≡ (value.expr_step k (map-Expr Expr Index Scalar Range Reading IndexReading TypeReading IndexReading (fold-Expr Reading IndexReading TypeReading IndexReading (value.expr_step k) value.index_step value.scalar_step value.range_step) (fold-Index Reading IndexReading TypeReading IndexReading (value.expr_step k) value.index_step value.scalar_step value.range_step) (fold-Scalar Reading IndexReading TypeReading IndexReading (value.expr_step k) value.index_step value.scalar_step value.range_step) (fold-Range Reading IndexReading TypeReading IndexReading (value.expr_step k) value.index_step value.scalar_step value.range_step) layer)).value m
+value_applied k m layer = ap (λ (r : Reading). r.value m) (value_expr k layer)
+
+pub kind_applied : (k : List Entry) (m : Mode) (layer : o.Scalar-F Expr Index Scalar Range) → (fold-Scalar Reading IndexReading TypeReading IndexReading (value.expr_step k) value.index_step value.scalar_step value.range_step (roll-Scalar layer)).kind m ≡ (value.scalar_step (map-Scalar Expr Index Scalar Range Reading IndexReading TypeReading IndexReading (fold-Expr Reading IndexReading TypeReading IndexReading (value.expr_step k) value.index_step value.scalar_step value.range_step) (fold-Index Reading IndexReading TypeReading IndexReading (value.expr_step k) value.index_step value.scalar_step value.range_step) (fold-Scalar Reading IndexReading TypeReading IndexReading (value.expr_step k) value.index_step value.scalar_step value.range_step) (fold-Range Reading IndexReading TypeReading IndexReading (value.expr_step k) value.index_step value.scalar_step value.range_step) layer)).kind m
+kind_applied k m layer = ap (λ (r : TypeReading). r.kind m) (value_scalar k layer)
+
+pub index_applied : (k : List Entry) (m : Mode) (c : ConstValue) (layer : o.Index-F Expr Index Scalar Range) → fold-Index Reading IndexReading TypeReading IndexReading (value.expr_step k) value.index_step value.scalar_step value.range_step (roll-Index layer) m c ≡ value.index_step (map-Index Expr Index Scalar Range Reading IndexReading TypeReading IndexReading (fold-Expr Reading IndexReading TypeReading IndexReading (value.expr_step k) value.index_step value.scalar_step value.range_step) (fold-Index Reading IndexReading TypeReading IndexReading (value.expr_step k) value.index_step value.scalar_step value.range_step) (fold-Scalar Reading IndexReading TypeReading IndexReading (value.expr_step k) value.index_step value.scalar_step value.range_step) (fold-Range Reading IndexReading TypeReading IndexReading (value.expr_step k) value.index_step value.scalar_step value.range_step) layer) m c
+index_applied k m c layer = ap (λ (r : IndexReading). r m c) (value_index k layer)
+
+pub range_applied : (k : List Entry) (m : Mode) (c : ConstValue) (start step end : Option Expr) → fold-Range Reading IndexReading TypeReading IndexReading (value.expr_step k) value.index_step value.scalar_step value.range_step (roll-Range (record { start = start; step = step; end = end })) m c ≡ value.range_step (map-Range Expr Index Scalar Range Reading IndexReading TypeReading IndexReading (fold-Expr Reading IndexReading TypeReading IndexReading (value.expr_step k) value.index_step value.scalar_step value.range_step) (fold-Index Reading IndexReading TypeReading IndexReading (value.expr_step k) value.index_step value.scalar_step value.range_step) (fold-Scalar Reading IndexReading TypeReading IndexReading (value.expr_step k) value.index_step value.scalar_step value.range_step) (fold-Range Reading IndexReading TypeReading IndexReading (value.expr_step k) value.index_step value.scalar_step value.range_step) (record { start = start; step = step; end = end })) m c
+range_applied k m c start step end = ap (λ (r : IndexReading). r m c) (value_range k start step end)
+
+pub typed_applied : (names : Names) (place : Place) (m : Mode) (layer : o.Expr-F Expr Index Scalar Range) → (fold-Expr Part IndexPart Scalar Range (expr_step names place) index_step scalar_step range_step (roll-Expr layer)).typed m ≡ (expr_step names place (map-Expr Expr Index Scalar Range Part IndexPart Scalar Range (fold-Expr Part IndexPart Scalar Range (expr_step names place) index_step scalar_step range_step) (fold-Index Part IndexPart Scalar Range (expr_step names place) index_step scalar_step range_step) (fold-Scalar Part IndexPart Scalar Range (expr_step names place) index_step scalar_step range_step) (fold-Range Part IndexPart Scalar Range (expr_step names place) index_step scalar_step range_step) layer)).typed m
+typed_applied names place m layer = ap (λ (p : Part). p.typed m) (part_expr names place layer)
+
 pub form_rolls : (layer : StatementForm-F StatementForm Statement) (place : Place) (around : Around) (state : State) → form_typing (roll-StatementForm layer) place around state ≡ form_step (map-StatementForm StatementForm Statement (Place → s.Reading) s.Reading form_typing statement_typing layer) place around state
 form_rolls layer place around state = ap (λ (f : Place → s.Reading). f place around state) (fold-roll-StatementForm (Place → s.Reading) s.Reading form_step statement_step layer)
 
 pub statement_rolls : (place : Place) (form : StatementForm) (around : Around) (state : State) → statement_typing (roll-Statement (record { place = place; form = form })) around state ≡ form_typing form place around state
 statement_rolls place form around state = ap (λ (f : s.Reading). f around state) (fold-roll-Statement (Place → s.Reading) s.Reading form_step statement_step (record { place = place; form = form }))
 
-pub ruleset rolls = (value_expr, value_index, value_scalar, value_range, sort_expr, sort_index, sort_scalar, sort_range, fixed_expr, fixed_index, fixed_scalar, fixed_range, part_expr, part_index, part_scalar, part_range, tokens_expr, tokens_index, tokens_scalar, tokens_range, form_rolls, statement_rolls)
+pub ruleset rolls = (value_applied, kind_applied, index_applied, range_applied, typed_applied, value_expr, value_index, value_scalar, value_range, sort_expr, sort_index, sort_scalar, sort_range, fixed_expr, fixed_index, fixed_scalar, fixed_range, part_expr, part_index, part_scalar, part_range, tokens_expr, tokens_index, tokens_scalar, tokens_range, form_rolls, statement_rolls)

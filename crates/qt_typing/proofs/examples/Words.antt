@@ -1,5 +1,5 @@
 -- Short words for writing programs of the syntax tree.
-use Rattle.std.specs.Prelude.{ℕ, List, [], ◌∷◌, Option, Some, None}
+use Rattle.std.specs.Prelude.{ℕ, List, [], ◌∷◌, Option, Some, None, Ok, Err}
 use Rattle.qt_tree.specs.declared.expression.Expr.{Expr, roll-Expr}
 use Rattle.qt_tree.specs.declared.expression.Index.{Index, roll-Index}
 use Rattle.qt_tree.specs.declared.expression.Scalar.{Scalar, roll-Scalar}
@@ -18,8 +18,13 @@ use Rattle.qt_tree.specs.declared.statement.StatementForm.{StatementForm, roll-S
 use Rattle.qt_tree.specs.declared.statement.StatementForm.TheOpen as s
 use Rattle.qt_tree.specs.declared.statement.StatementForm.TheOpen.{StatementForm-F}
 use Rattle.qt_tree.specs.declared.statement.Target.{Target}
+use Rattle.qt_typed.specs.declared.program.Typed.{Typed}
+use Rattle.qt_typing.specs.Checked.{Checked}
 
 -- the statement on that line
+abbrev pub at_place : ℕ → ℕ → Place
+at_place line column = record { file = 0; line = line; column = column }
+
 abbrev pub line : ℕ → Place
 line n = record { file = 0; line = n; column = 1 }
 
@@ -90,3 +95,8 @@ on_line n form = item.Statement (statement n form)
 
 abbrev pub program : List Item → Program
 program items = record { versions = []; items = items; end = line 0 }
+
+-- how many qubits and slots a program has
+abbrev pub numbers : Checked Typed → Checked (ℕ × ℕ)
+numbers (Ok typed) = Ok (typed.qubits, typed.slots)
+numbers (Err e) = Err e
