@@ -6,8 +6,8 @@ use Rattle.qt_const_rules.specs.declared.sorts.Sort.{Sort}
 use Rattle.qt_value.specs.declared.constant.ConstValue.{ConstValue}
 use Rattle.qt_const.specs.Value.{Reading, TypeReading, IndexReading, reading_of, index_reading, type_reading, range_reading}
 use Rattle.qt_const.specs.Value as value
-use Rattle.qt_tree.specs.declared.expression.Expr.{Expr, roll-Expr}
-use Rattle.qt_tree.specs.declared.expression.Index.{Index, roll-Index}
+use Rattle.qt_tree.specs.declared.expression.Expr.{Expr, roll-Expr, out-Expr, out-roll-Expr}
+use Rattle.qt_tree.specs.declared.expression.Index.{Index, roll-Index, out-Index, out-roll-Index}
 use Rattle.qt_tree.specs.declared.expression.Scalar.{Scalar, roll-Scalar}
 use Rattle.qt_tree.specs.declared.expression.Range.{Range, roll-Range}
 use Rattle.qt_tree.specs.declared.expression.Expr.TheOpen as o
@@ -111,4 +111,10 @@ form_rolls layer place around state = ap (λ (f : Place → s.Reading). f place 
 pub statement_rolls : (place : Place) (form : StatementForm) (around : Around) (state : State) → statement_typing (roll-Statement (record { place = place; form = form })) around state ≡ form_typing form place around state
 statement_rolls place form around state = ap (λ (f : s.Reading). f around state) (fold-roll-Statement (Place → s.Reading) s.Reading form_step statement_step (record { place = place; form = form }))
 
-pub ruleset rolls = (value_applied, kind_applied, index_applied, range_applied, typed_applied, value_expr, value_index, value_scalar, value_range, sort_expr, sort_index, sort_scalar, sort_range, fixed_expr, fixed_index, fixed_scalar, fixed_range, part_expr, part_index, part_scalar, part_range, tokens_expr, tokens_index, tokens_scalar, tokens_range, form_rolls, statement_rolls)
+pub expr_layer : (layer : o.Expr-F Expr Index Scalar Range) → out-Expr (roll-Expr layer) ≡ layer
+expr_layer layer = out-roll-Expr layer
+
+pub index_layer : (layer : o.Index-F Expr Index Scalar Range) → out-Index (roll-Index layer) ≡ layer
+index_layer layer = out-roll-Index layer
+
+pub ruleset rolls = (expr_layer, index_layer, value_applied, kind_applied, index_applied, range_applied, typed_applied, value_expr, value_index, value_scalar, value_range, sort_expr, sort_index, sort_scalar, sort_range, fixed_expr, fixed_index, fixed_scalar, fixed_range, part_expr, part_index, part_scalar, part_range, tokens_expr, tokens_index, tokens_scalar, tokens_range, form_rolls, statement_rolls)

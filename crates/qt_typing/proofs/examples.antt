@@ -1,2 +1,6 @@
 mod Words
-mod First
+mod Rows
+mod Orders
+mod Phases
+mod Names
+mod Qubits
