@@ -1,10 +1,14 @@
 //! Where a value of a type is wanted.
 
-ghost use Rattle.std.specs.Prelude.{◌≡◌, Ok, IfOk};
+ghost use Rattle.std.specs.Prelude.{◌≡◌, IfOk};
+ghost use Rattle.qt_value.specs.Types.{given, has_size};
+ghost use Rattle.qt_value.specs.declared.types.ValueType.TheVariants as kind;
+ghost use Rattle.qt_typed.specs.declared.expression.TypedExpr.TheVariants as typed;
+ghost use Rattle.qt_typing.specs.declared.operand.Operand.TheVariants as operand;
 ghost use Rattle.qt_typing.specs.Checked.{Gives};
 ghost use Rattle.qt_typing.specs.Conversions.{as_type, converts, has_row, is_same, phase_as, rescales, truth_at, value_form, wanted, zero_angle, zero_as, Written, Unwritten};
 
-use crate::constants::{is_zero_at, phase_at};
+use crate::constants::{is_zero_at, phase_at, refusal_at};
 use qt_const::casts::cast_to;
 use qt_const::modes::Mode;
 use qt_outside::faults::OutOfMemory;
@@ -77,4 +81,213 @@ pub fn converts(from: ValueType, to: ValueType) -> bool
     ensures { result ≡ converts Unwritten from to }
 {
     has_row(from, to) && !rescales(from, to)
+}
+
+/// A form as a value of another type.
+fn conversion(alloc: Global, to: ValueType, form: TypedExpr) -> Result<TypedExpr, OutOfMemory>
+    ensures { IfOk result (λ converted. converted ≡ typed.Convert to form) }
+{
+    Ok(TypedExpr::Convert {
+        to,
+        operand: Boxed::new(alloc, form)?,
+    })
+}
+
+/// A value of a type as one of another. E10 exactly where no conversion fits.
+#[tactic(auto, unfolding(qt_typing::specs::Conversions::as_type))]
+pub fn as_type(
+    alloc: Global,
+    place: Place,
+    to: ValueType,
+    from: ValueType,
+    form: TypedExpr,
+) -> Result<TypedExpr, TextRefusal>
+    ensures { Gives (as_type place to from form) result }
+{
+    if is_same(from, to) {
+        return Ok(form);
+    }
+    if !converts(from, to) {
+        return Err(TextRefusal::E10(place));
+    }
+    Ok(conversion(alloc, to, form)?)
+}
+
+/// The angle 0 of a width, where there are angles of it.
+pub fn zero_angle(width: u8) -> Option<TypedExpr>
+    ensures { result ≡ given (has_size (kind.Angle width)) (zero_angle width) }
+{
+    match Value::new(ValueType::Angle(width), 0) {
+        Some(value) => Some(TypedExpr::Constant { value }),
+        None => None,
+    }
+}
+
+/// The constant whole number 0 as an angle.
+#[tactic(auto, unfolding(qt_typing::specs::Conversions::zero_as))]
+fn zero_as_angle(
+    alloc: Global,
+    names: &Names,
+    mode: Mode,
+    place: Place,
+    width: u8,
+    written: &Expr,
+) -> Result<TypedExpr, TextRefusal>
+    ensures { Gives (zero_as names.now mode place (kind.Angle width) written.now) result }
+{
+    let zero = is_zero_at(alloc, names, mode, place, written)?;
+    match zero_angle(width) {
+        Some(form) if zero => Ok(form),
+        _ => Err(TextRefusal::E10(place)),
+    }
+}
+
+/// The constant whole number 0 where no conversion fits.
+#[tactic(auto, unfolding(qt_typing::specs::Conversions::zero_as))]
+fn zero_as(
+    alloc: Global,
+    names: &Names,
+    mode: Mode,
+    place: Place,
+    to: ValueType,
+    written: &Expr,
+) -> Result<TypedExpr, TextRefusal>
+    ensures { Gives (zero_as names.now mode place to written.now) result }
+{
+    match to {
+        ValueType::Angle(width) => zero_as_angle(alloc, names, mode, place, width, written),
+        _ => Err(TextRefusal::E10(place)),
+    }
+}
+
+/// A constant that is a value.
+fn value_form(place: Place, constant: ConstValue) -> Result<TypedExpr, TextRefusal>
+    ensures { Gives (value_form place constant) result }
+{
+    match constant {
+        ConstValue::Value(value) => Ok(TypedExpr::Constant { value }),
+        ConstValue::Phase(_) => Err(TextRefusal::E10(place)),
+    }
+}
+
+/// A phase as a value of a type.
+#[tactic(auto, unfolding(qt_typing::specs::Conversions::phase_as))]
+pub fn phase_as(place: Place, to: ValueType, phase: Phase) -> Result<TypedExpr, TextRefusal>
+    ensures { Gives (phase_as place to phase) result }
+{
+    if !to.has_size() {
+        return Err(TextRefusal::E10(place));
+    }
+    match cast_to(to, ConstValue::Phase(phase)) {
+        Ok(constant) => value_form(place, constant),
+        Err(fault) => Err(refusal_at(place, fault)),
+    }
+}
+
+/// A value where one of a type is wanted.
+#[tactic(auto, unfolding(qt_typing::specs::Conversions::wanted))]
+fn value_wanted(
+    alloc: Global,
+    names: &Names,
+    mode: Mode,
+    place: Place,
+    to: ValueType,
+    written: &Expr,
+    from: ValueType,
+    form: TypedExpr,
+) -> Result<TypedExpr, TextRefusal>
+    ensures { Gives (wanted Unwritten names.now mode place to written.now (operand.Value from form)) result }
+{
+    if is_same(from, to) {
+        return Ok(form);
+    }
+    if converts(from, to) {
+        return Ok(conversion(alloc, to, form)?);
+    }
+    zero_as(alloc, names, mode, place, to, written)
+}
+
+/// An operand where a value of a type is wanted.
+#[tactic(auto, unfolding(qt_typing::specs::Conversions::wanted))]
+pub fn wanted(
+    alloc: Global,
+    names: &Names,
+    mode: Mode,
+    place: Place,
+    to: ValueType,
+    written: &Expr,
+    of: Operand,
+) -> Result<TypedExpr, TextRefusal>
+    ensures { Gives (wanted Unwritten names.now mode place to written.now of) result }
+{
+    match of {
+        Operand::Value { kind, form } => {
+            value_wanted(alloc, names, mode, place, to, written, kind, form)
+        }
+        Operand::Phase { phase } => phase_as(place, to, phase),
+        Operand::Open { .. } => {
+            let phase = phase_at(alloc, names, mode, place, written)?;
+            phase_as(place, to, phase)
+        }
+    }
+}
+
+/// A value by a cast.
+#[tactic(auto, unfolding(qt_typing::specs::Conversions::wanted))]
+fn value_cast(
+    alloc: Global,
+    names: &Names,
+    mode: Mode,
+    place: Place,
+    to: ValueType,
+    written: &Expr,
+    from: ValueType,
+    form: TypedExpr,
+) -> Result<TypedExpr, TextRefusal>
+    ensures { Gives (wanted Written names.now mode place to written.now (operand.Value from form)) result }
+{
+    if is_same(from, to) {
+        return Ok(form);
+    }
+    if casts(from, to) {
+        return Ok(conversion(alloc, to, form)?);
+    }
+    zero_as(alloc, names, mode, place, to, written)
+}
+
+/// An operand by a cast.
+#[tactic(auto, unfolding(qt_typing::specs::Conversions::wanted))]
+pub fn cast_of(
+    alloc: Global,
+    names: &Names,
+    mode: Mode,
+    place: Place,
+    to: ValueType,
+    written: &Expr,
+    of: Operand,
+) -> Result<TypedExpr, TextRefusal>
+    ensures { Gives (wanted Written names.now mode place to written.now of) result }
+{
+    match of {
+        Operand::Value { kind, form } => {
+            value_cast(alloc, names, mode, place, to, written, kind, form)
+        }
+        Operand::Phase { phase } => phase_as(place, to, phase),
+        Operand::Open { .. } => {
+            let phase = phase_at(alloc, names, mode, place, written)?;
+            phase_as(place, to, phase)
+        }
+    }
+}
+
+/// An operand where a truth value is wanted.
+#[tactic(auto, unfolding(qt_typing::specs::Conversions::truth_at))]
+pub fn truth_at(alloc: Global, place: Place, of: Operand) -> Result<TypedExpr, TextRefusal>
+    ensures { Gives (truth_at place of) result }
+{
+    match of {
+        Operand::Value { kind, form } => as_type(alloc, place, ValueType::Bool, kind, form),
+        Operand::Phase { .. } => Err(TextRefusal::E10(place)),
+        Operand::Open { .. } => Err(TextRefusal::E10(place)),
+    }
 }

@@ -12,6 +12,7 @@ use Rattle.qt_tree.specs.declared.refusal.TextRefusal.TheVariants as refusal
 use Rattle.qt_typed.specs.declared.expression.TypedExpr.{TypedExpr}
 use Rattle.qt_typed.specs.declared.expression.TypedExpr.TheVariants as typed
 use Rattle.qt_value.specs.Casts as table
+use Rattle.qt_value.specs.Types.{has_size}
 use Rattle.qt_value.specs.declared.constant.ConstValue.{ConstValue}
 use Rattle.qt_value.specs.declared.constant.ConstValue.TheVariants as constant
 use Rattle.qt_value.specs.declared.types.ValueType.{ValueType}
@@ -62,7 +63,8 @@ abbrev pub zero_angle : ℕ → TypedExpr
 zero_angle n = typed.Constant (record { kind = kind.Angle n; bits = 0 })
 
 unfoldable pub zero_as : Names → Mode → Place → ValueType → Expr → Checked TypedExpr
-zero_as names m place (kind.Angle n) written = if is_zero_at names m written then Ok (zero_angle n) else Err (refusal.E10 place)
+zero_as names m place (kind.Angle n) written =
+    if has_size (kind.Angle n) && is_zero_at names m written then Ok (zero_angle n) else Err (refusal.E10 place)
 zero_as names m place to written = Err (refusal.E10 place)
 
 -- ---- values
@@ -80,7 +82,8 @@ value_form place (constant.Phase p) = Err (refusal.E10 place)
 
 -- a phase as a value of a type
 unfoldable pub phase_as : Place → ValueType → ℤ → Checked TypedExpr
-phase_as place to p = and_then (answer_at place (cast_to to (constant.Phase p))) (value_form place)
+phase_as place to p =
+    if has_size to then and_then (answer_at place (cast_to to (constant.Phase p))) (value_form place) else Err (refusal.E10 place)
 
 -- a phase that has to be constant here
 abbrev pub known_phase : Place → ConstValue → Checked ℤ
