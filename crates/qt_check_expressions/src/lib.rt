@@ -8,4 +8,5 @@
 
 pub mod constants;
 pub mod convert;
+pub mod sorts;
 

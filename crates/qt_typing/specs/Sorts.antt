@@ -10,9 +10,11 @@ use Rattle.qt_names.specs.declared.named.Named.{Named}
 use Rattle.qt_names.specs.declared.named.What.{What}
 use Rattle.qt_names.specs.declared.named.What.TheVariants as what
 use Rattle.qt_tree.specs.declared.expression.Expr.{Expr}
+use Rattle.qt_tree.specs.declared.expression.Index.{Index}
+use Rattle.qt_tree.specs.declared.expression.Scalar.{Scalar}
 use Rattle.qt_tree.specs.declared.expression.Expr.TheOpen as e
 use Rattle.qt_tree.specs.declared.expression.Expr.TheOpen.{Expr-F, Index-F, Scalar-F, Range-F}
-use Rattle.qt_tree.specs.declared.expression.Expr.TheFolds.{fold-Expr}
+use Rattle.qt_tree.specs.declared.expression.Expr.TheFolds.{fold-Expr, fold-Index, fold-Scalar}
 use Rattle.qt_value.specs.declared.types.ValueType.{ValueType}
 use Rattle.qt_typing.specs.declared.names.Names.{Names}
 
@@ -46,6 +48,9 @@ scalar_sort _ = sort.Whole
 
 abbrev pub sort_at : Names → Expr → Sort
 sort_at names = fold-Expr Sort (Unit {0}) Sort (Unit {0}) (expr_sort names) (λ index. tt) scalar_sort (λ range. tt)
+
+abbrev pub scalar_sort_at : Names → Scalar → Sort
+scalar_sort_at names = fold-Scalar Sort (Unit {0}) Sort (Unit {0}) (expr_sort names) (λ index. tt) scalar_sort (λ range. tt)
 
 abbrev pub is_phase : Sort → Bool
 is_phase sort.Phase = true
@@ -86,3 +91,6 @@ index_fixed _ = true
 
 abbrev pub is_fixed : Names → Expr → Bool
 is_fixed names = fold-Expr Bool Bool (Unit {0}) (Unit {0}) (expr_fixed names) index_fixed (λ scalar. tt) (λ range. tt)
+
+abbrev pub index_fixed_at : Names → Index → Bool
+index_fixed_at names = fold-Index Bool Bool (Unit {0}) (Unit {0}) (expr_fixed names) index_fixed (λ scalar. tt) (λ range. tt)
