@@ -21,10 +21,14 @@ scalar_tt names = fold-Scalar Bool Bool (Unit {0}) (Unit {0}) (expr_fixed names)
 abbrev range_tt : Names → Range → Unit {0}
 range_tt names = fold-Range Bool Bool (Unit {0}) (Unit {0}) (expr_fixed names) index_fixed (λ scalar. tt) (λ range. tt)
 
-expr_rolls : (names : Names) (layer : o.Expr-F Expr Index Scalar Range) → is_fixed names (roll-Expr layer) ≡ expr_fixed names (map-Expr Expr Index Scalar Range Bool Bool (Unit {0}) (Unit {0}) (is_fixed names) (index_fixed_at names) (scalar_tt names) (range_tt names) layer)
+expr_rolls : (names : Names) (layer : o.Expr-F Expr Index Scalar Range) → is_fixed names (roll-Expr layer)
+    ≡ expr_fixed names (map-Expr Expr Index Scalar Range Bool Bool (Unit {0}) (Unit {0}) (is_fixed names) (index_fixed_at names)
+    (scalar_tt names) (range_tt names) layer)
 expr_rolls names = fold-roll-Expr Bool Bool (Unit {0}) (Unit {0}) (expr_fixed names) index_fixed (λ scalar. tt) (λ range. tt)
 
-index_rolls : (names : Names) (layer : o.Index-F Expr Index Scalar Range) → index_fixed_at names (roll-Index layer) ≡ index_fixed (map-Index Expr Index Scalar Range Bool Bool (Unit {0}) (Unit {0}) (is_fixed names) (index_fixed_at names) (scalar_tt names) (range_tt names) layer)
+index_rolls : (names : Names) (layer : o.Index-F Expr Index Scalar Range) → index_fixed_at names (roll-Index layer)
+    ≡ index_fixed (map-Index Expr Index Scalar Range Bool Bool (Unit {0}) (Unit {0}) (is_fixed names) (index_fixed_at names) (scalar_tt
+    names) (range_tt names) layer)
 index_rolls names = fold-roll-Index Bool Bool (Unit {0}) (Unit {0}) (expr_fixed names) index_fixed (λ scalar. tt) (λ range. tt)
 
 pub whole_fixed : (names : Names) (n : ℕ) → is_fixed names (e.Whole n) ≡ true
@@ -45,10 +49,12 @@ truth_fixed names b = ap (is_fixed names) (sym (e.rolls-Bool b)) ∙ expr_rolls 
 pub parenthesized_fixed : (names : Names) (inner : Expr) → is_fixed names (e.Parenthesized inner) ≡ is_fixed names inner
 parenthesized_fixed names inner = ap (is_fixed names) (sym (e.rolls-Parenthesized inner)) ∙ expr_rolls names (o.Parenthesized inner)
 
-pub name_fixed : (names : Names) (name : Label) (brackets : List (List Index)) → is_fixed names (e.Name name brackets) ≡ not (is_variable (found names.scopes name)) && each_fixed (map (map (index_fixed_at names)) brackets)
+pub name_fixed : (names : Names) (name : Label) (brackets : List (List Index)) → is_fixed names (e.Name name brackets)
+    ≡ not (is_variable (found names.scopes name)) && each_fixed (map (map (index_fixed_at names)) brackets)
 name_fixed names name brackets = ap (is_fixed names) (sym (e.rolls-Name name brackets)) ∙ expr_rolls names (o.Name name brackets)
 
-pub call_fixed : (names : Names) (name : Label) (arguments : List Expr) → is_fixed names (e.Call name arguments) ≡ all_fixed (map (is_fixed names) arguments)
+pub call_fixed : (names : Names) (name : Label) (arguments : List Expr) → is_fixed names (e.Call name arguments)
+    ≡ all_fixed (map (is_fixed names) arguments)
 call_fixed names name arguments = ap (is_fixed names) (sym (e.rolls-Call name arguments)) ∙ expr_rolls names (o.Call name arguments)
 
 pub cast_fixed : (names : Names) (to : Scalar) (operand : Expr) → is_fixed names (e.Cast to operand) ≡ is_fixed names operand
@@ -61,7 +67,8 @@ sizeof_fixed names name (Some d) = ap (is_fixed names) (sym (e.rolls-SizeOf name
 pub unary_fixed : (names : Names) (op : PrefixOperator) (operand : Expr) → is_fixed names (e.Unary op operand) ≡ is_fixed names operand
 unary_fixed names op operand = ap (is_fixed names) (sym (e.rolls-Unary op operand)) ∙ expr_rolls names (o.Unary op operand)
 
-pub binary_fixed : (names : Names) (op : InfixOperator) (left : Expr) (right : Expr) → is_fixed names (e.Binary op left right) ≡ is_fixed names left && is_fixed names right
+pub binary_fixed : (names : Names) (op : InfixOperator) (left : Expr) (right : Expr) → is_fixed names (e.Binary op left right)
+    ≡ is_fixed names left && is_fixed names right
 binary_fixed names op left right = ap (is_fixed names) (sym (e.rolls-Binary op left right)) ∙ expr_rolls names (o.Binary op left right)
 
 pub at_fixed : (names : Names) (place : Expr) → index_fixed_at names (x.At place) ≡ is_fixed names place
@@ -73,6 +80,7 @@ range_fixed names range = ap (index_fixed_at names) (sym (x.rolls-Range range)) 
 pub set_fixed : (names : Names) (places : List Expr) → index_fixed_at names (x.Set places) ≡ true
 set_fixed names places = ap (index_fixed_at names) (sym (x.rolls-Set places)) ∙ index_rolls names (o.Set places)
 
-pub ruleset expressions = (whole_fixed, digits_fixed, pi_fixed, tau_fixed, truth_fixed, parenthesized_fixed, name_fixed, call_fixed, cast_fixed, sizeof_fixed, unary_fixed, binary_fixed)
+pub ruleset expressions = (whole_fixed, digits_fixed, pi_fixed, tau_fixed, truth_fixed, parenthesized_fixed, name_fixed, call_fixed,
+    cast_fixed, sizeof_fixed, unary_fixed, binary_fixed)
 
 pub ruleset indexes = (at_fixed, range_fixed, set_fixed)

@@ -10,7 +10,8 @@ use Rattle.qt_value.specs.declared.constant.ConstValue.{ConstValue}
 use Rattle.qt_typing.specs.Checked.{answer_at}
 use Rattle.qt_typing.specs.Conversions.{is_zero_answer}
 
-pub refusal_gives : {A : Type 0} (place : Place) (a : Answer A) (e : TextRefusal) → RefusesAt place a e → e ≢ refusal.OutOfMemory → answer_at place a ≡ Err e
+pub refusal_gives : {A : Type 0} (place : Place) (a : Answer A) (e : TextRefusal) → RefusesAt place a e → e ≢ refusal.OutOfMemory
+    → answer_at place a ≡ Err e
 refusal_gives place (Ok c) e h n = absurd h
 refusal_gives place (Err (fault.Name name)) e (inl h) n = ap Err (sym h)
 refusal_gives place (Err (fault.Name name)) e (inr h) n = absurd (n h)

@@ -26,16 +26,21 @@ index_sort names = fold-Index Sort (Unit {0}) Sort (Unit {0}) (expr_sort names) 
 abbrev range_sort : Names → Range → Unit {0}
 range_sort names = fold-Range Sort (Unit {0}) Sort (Unit {0}) (expr_sort names) (λ index. tt) scalar_sort (λ range. tt)
 
-expr_rolls : (names : Names) (layer : o.Expr-F Expr Index Scalar Range) → sort_at names (roll-Expr layer) ≡ expr_sort names (map-Expr Expr Index Scalar Range Sort (Unit {0}) Sort (Unit {0}) (sort_at names) (index_sort names) (scalar_sort_at names) (range_sort names) layer)
+expr_rolls : (names : Names) (layer : o.Expr-F Expr Index Scalar Range) → sort_at names (roll-Expr layer)
+    ≡ expr_sort names (map-Expr Expr Index Scalar Range Sort (Unit {0}) Sort (Unit {0}) (sort_at names) (index_sort names)
+    (scalar_sort_at names) (range_sort names) layer)
 expr_rolls names = fold-roll-Expr Sort (Unit {0}) Sort (Unit {0}) (expr_sort names) (λ index. tt) scalar_sort (λ range. tt)
 
-scalar_rolls : (names : Names) (layer : o.Scalar-F Expr Index Scalar Range) → scalar_sort_at names (roll-Scalar layer) ≡ scalar_sort (map-Scalar Expr Index Scalar Range Sort (Unit {0}) Sort (Unit {0}) (sort_at names) (index_sort names) (scalar_sort_at names) (range_sort names) layer)
+scalar_rolls : (names : Names) (layer : o.Scalar-F Expr Index Scalar Range) → scalar_sort_at names (roll-Scalar layer)
+    ≡ scalar_sort (map-Scalar Expr Index Scalar Range Sort (Unit {0}) Sort (Unit {0}) (sort_at names) (index_sort names)
+    (scalar_sort_at names) (range_sort names) layer)
 scalar_rolls names = fold-roll-Scalar Sort (Unit {0}) Sort (Unit {0}) (expr_sort names) (λ index. tt) scalar_sort (λ range. tt)
 
 -- how many indexes there are doesn't depend on what they are
 pub count_of_map : {X Y : Type 0} (f : X → Y) (brackets : List (List X)) → count_of (map (map f) brackets) ≡ count_of brackets
 count_of_map f [] = refl
-count_of_map f (indexes ∷ rest) = ap (λ n. n + count_of (map (map f) rest)) (length-map indexes f) ∙ ap (λ n. length indexes + n) (count_of_map f rest)
+count_of_map f (indexes ∷ rest) =
+    ap (λ n. n + count_of (map (map f) rest)) (length-map indexes f) ∙ ap (λ n. length indexes + n) (count_of_map f rest)
 
 pub whole_sort : (names : Names) (n : ℕ) → sort_at names (e.Whole n) ≡ sort.Whole
 whole_sort names n = ap (sort_at names) (sym (e.rolls-Whole n)) ∙ expr_rolls names (o.Whole n)
@@ -55,10 +60,12 @@ truth_sort names b = ap (sort_at names) (sym (e.rolls-Bool b)) ∙ expr_rolls na
 pub parenthesized_sort : (names : Names) (inner : Expr) → sort_at names (e.Parenthesized inner) ≡ sort_at names inner
 parenthesized_sort names inner = ap (sort_at names) (sym (e.rolls-Parenthesized inner)) ∙ expr_rolls names (o.Parenthesized inner)
 
-pub name_sort : (names : Names) (name : Label) (brackets : List (List Index)) → sort_at names (e.Name name brackets) ≡ sort_of_named (count_of brackets) (found names.scopes name)
+pub name_sort : (names : Names) (name : Label) (brackets : List (List Index)) → sort_at names (e.Name name brackets)
+    ≡ sort_of_named (count_of brackets) (found names.scopes name)
 name_sort names name brackets =
     ap (sort_at names) (sym (e.rolls-Name name brackets))
-    ∙ (expr_rolls names (o.Name name brackets) ∙ ap (λ n. sort_of_named n (found names.scopes name)) (count_of_map (index_sort names) brackets))
+    ∙ (expr_rolls names (o.Name name brackets) ∙ ap (λ n. sort_of_named n (found names.scopes name)) (count_of_map (index_sort names)
+        brackets))
 
 pub call_sort : (names : Names) (name : Label) (arguments : List Expr) → sort_at names (e.Call name arguments) ≡ sort.Whole
 call_sort names name arguments = ap (sort_at names) (sym (e.rolls-Call name arguments)) ∙ expr_rolls names (o.Call name arguments)
@@ -70,10 +77,12 @@ pub sizeof_sort : (names : Names) (name : Label) (dimension : Option Expr) → s
 sizeof_sort names name None = ap (sort_at names) (sym (e.rolls-SizeOf name None)) ∙ expr_rolls names (o.SizeOf name None)
 sizeof_sort names name (Some d) = ap (sort_at names) (sym (e.rolls-SizeOf name (Some d))) ∙ expr_rolls names (o.SizeOf name (Some d))
 
-pub unary_sort : (names : Names) (op : PrefixOperator) (operand : Expr) → sort_at names (e.Unary op operand) ≡ sort_of_prefix op (sort_at names operand)
+pub unary_sort : (names : Names) (op : PrefixOperator) (operand : Expr) → sort_at names (e.Unary op operand)
+    ≡ sort_of_prefix op (sort_at names operand)
 unary_sort names op operand = ap (sort_at names) (sym (e.rolls-Unary op operand)) ∙ expr_rolls names (o.Unary op operand)
 
-pub binary_sort : (names : Names) (op : InfixOperator) (left right : Expr) → sort_at names (e.Binary op left right) ≡ sort_of_infix op (sort_at names left) (sort_at names right)
+pub binary_sort : (names : Names) (op : InfixOperator) (left right : Expr) → sort_at names (e.Binary op left right)
+    ≡ sort_of_infix op (sort_at names left) (sort_at names right)
 binary_sort names op left right = ap (sort_at names) (sym (e.rolls-Binary op left right)) ∙ expr_rolls names (o.Binary op left right)
 
 pub bool_type_sort : (names : Names) → scalar_sort_at names c.Bool ≡ sort.Whole
@@ -95,6 +104,7 @@ pub angle_type_sort : (names : Names) (size : Option Expr) → scalar_sort_at na
 angle_type_sort names None = ap (scalar_sort_at names) (sym (c.rolls-Angle None)) ∙ scalar_rolls names (o.Angle None)
 angle_type_sort names (Some n) = ap (scalar_sort_at names) (sym (c.rolls-Angle (Some n))) ∙ scalar_rolls names (o.Angle (Some n))
 
-pub ruleset sorts = (whole_sort, digits_sort, pi_sort, tau_sort, truth_sort, parenthesized_sort, name_sort, call_sort, cast_sort, sizeof_sort, unary_sort, binary_sort)
+pub ruleset sorts = (whole_sort, digits_sort, pi_sort, tau_sort, truth_sort, parenthesized_sort, name_sort, call_sort, cast_sort,
+    sizeof_sort, unary_sort, binary_sort)
 
 pub ruleset scalars = (bool_type_sort, bit_type_sort, int_type_sort, uint_type_sort, angle_type_sort)

@@ -8,5 +8,6 @@
 
 pub mod constants;
 pub mod convert;
+pub mod operators;
 pub mod sorts;
 

@@ -1,6 +1,6 @@
--- Calls of subroutines, and right sides (OpenQASM 3.0 live specification, "Subroutines" and "Classical instructions"; Cross et al. 2022). In a
--- call come its name, the number of its arguments, and then the arguments, each with its type or size and whether it repeats a qubit. Its frame
--- is taken where it stands. A call is a statement or a whole right side.
+-- Calls of subroutines, and right sides (OpenQASM 3.0 live specification, "Subroutines" and "Classical instructions"; Cross et al. 2022).
+-- In a call come its name, the number of its arguments, and then the arguments, each with its type or size and whether it repeats a
+-- qubit. Its frame is taken where it stands. A call is a statement or a whole right side.
 use Rattle.std.specs.Prelude.{ℕ, nat_eq, ◌||◌, Bool, true, false, not, List, [], ◌∷◌, ◌++◌, length, slice_get, Option, Some, None, Ok, Err}
 use Rattle.qt_names.specs.Entries.{Name}
 use Rattle.qt_names.specs.Scopes.{found, finding}
@@ -99,7 +99,8 @@ arguments_from names place done _ _ = Ok done
 
 unfoldable pub arguments : Names → Place → List TypedParameter → List Expr → Checked Given
 arguments names place parameters given =
-    and_then (unless (not (nat_eq (length parameters) (length given))) (refusal.E14 place (told (length parameters)) (told (length given)))) (λ _.
+    and_then (unless (not (nat_eq (length parameters) (length given))) (refusal.E14 place (told (length parameters)) (told (length
+        given)))) (λ _.
     arguments_from names place (record { values = []; qubits = [] }) parameters given)
 
 -- ---- calls

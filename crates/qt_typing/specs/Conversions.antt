@@ -1,6 +1,6 @@
--- Where a value of a type is wanted (OpenQASM 3.0 live specification, "Types and Casting"; Cross et al. 2022). The table of conversions decides;
--- an angle becomes one of another width only by a cast that is written. A phase becomes an angle where it is a whole number of its steps, and
--- the constant whole number 0 counts as phase 0 where no conversion fits.
+-- Where a value of a type is wanted (OpenQASM 3.0 live specification, "Types and Casting"; Cross et al. 2022). The table of conversions
+-- decides; an angle becomes one of another width only by a cast that is written. A phase becomes an angle where it is a whole number of
+-- its steps, and the constant whole number 0 counts as phase 0 where no conversion fits.
 use Rattle.std.specs.Prelude.{ℕ, nat_eq, ◌&&◌, Bool, true, false, not, if◌then◌else◌, is_some, ℤ, Option, Some, None, Result, Ok, Err}
 use Rattle.qt_const_rules.specs.Answers.{Answer}
 use Rattle.qt_const_rules.specs.declared.modes.Mode.{Mode}

@@ -1,5 +1,6 @@
--- Declarations (OpenQASM 3.0 live specification, "Types and Casting", "Quantum types" and "Scoping of variables"; Cross et al. 2022). A type or
--- size is judged where it stands, a name is new in its scope before its right side is judged, and is in scope behind the declaration alone.
+-- Declarations (OpenQASM 3.0 live specification, "Types and Casting", "Quantum types" and "Scoping of variables"; Cross et al. 2022). A
+-- type or size is judged where it stands, a name is new in its scope before its right side is judged, and is in scope behind the
+-- declaration alone.
 use Rattle.std.specs.Prelude.{ℕ, ◌+◌, ◌*◌, ◌^◌, nat_eq, nat_le, nat_lt, ◌&&◌, ◌||◌, Bool, true, false, not, if◌then◌else◌, ℤ, pos, negsuc, List, [], ◌∷◌, ◌++◌, length, Option, Some, None, Ok, Err}
 use Rattle.qt_const.specs.Constants.{cast_to}
 use Rattle.qt_const_rules.specs.declared.consts.Known.{Known}
@@ -76,7 +77,8 @@ keep_variable output = λ s. Ok (tt, if is_global s then record s { variables = 
 
 unfoldable pub declare_variable : Place → Name → ValueType → List ℕ → ℕ → Typing (Unit {0})
 declare_variable place name kind lengths slot =
-    declare place name (variable_named kind lengths slot) (known_lengths lengths) >>= (λ _. keep_variable (told_at_end name kind lengths slot))
+    declare place name (variable_named kind lengths slot) (known_lengths lengths) >>= (λ _. keep_variable (told_at_end name kind
+        lengths slot))
 
 -- ---- `bit[2] c = measure q;`
 
@@ -120,7 +122,8 @@ constant_named kind = record { what = what.Constant; of = Some kind; lengths = [
 -- the bodies of subroutines and gates see a global one
 unfoldable pub declare_constant : Place → Name → ValueType → ConstValue → Typing (Unit {0})
 declare_constant place name kind c = λ s.
-    (if is_global s then declare_in_both place name (constant_named kind) (known.Constant c) else declare place name (constant_named kind) (known.Constant c)) s
+    (if is_global s then declare_in_both place name (constant_named kind) (known.Constant c) else declare place name (constant_named
+        kind) (known.Constant c)) s
 
 unfoldable pub constant_of : Place → Scalar → Name → Expr → Typing (Unit {0})
 constant_of place scalar name expr =
@@ -129,7 +132,8 @@ constant_of place scalar name expr =
 -- ---- `qubit[2] q;` and `qreg q[2];`
 
 abbrev pub qubits_named : List ℕ → ℕ → ℕ → Named
-qubits_named lengths first count = record { what = what.Qubits; of = None; lengths = lengths; places = places.Qubits (program_qubits first count) }
+qubits_named lengths first count =
+    record { what = what.Qubits; of = None; lengths = lengths; places = places.Qubits (program_qubits first count) }
 
 -- a single qubit, or a register of a size
 unfoldable pub declare_qubits : Place → Name → Option ℕ → Typing (Unit {0})

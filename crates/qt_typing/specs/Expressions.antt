@@ -174,7 +174,8 @@ builtin_at place name (Some it) = hidden_call place name it.what
 -- ---- the forms
 
 abbrev pub as_written : Expr-F Part IndexPart Scalar Range → Expr
-as_written layer = roll-Expr (map-Expr Part IndexPart Scalar Range Expr Index Scalar Range (λ p. p.written) (λ p. p.written) (λ s. s) (λ r. r) layer)
+as_written layer =
+    roll-Expr (map-Expr Part IndexPart Scalar Range Expr Index Scalar Range (λ p. p.written) (λ p. p.written) (λ s. s) (λ r. r) layer)
 
 abbrev pub form_typed : Names → Mode → Place → Expr → Expr-F Part IndexPart Scalar Range → Checked Operand
 form_typed names m place whole (e.Whole n) = constant_operand names m place whole
@@ -217,15 +218,18 @@ shape_of (e.Set parts) = Several
 
 abbrev pub index_step : Index-F Part IndexPart Scalar Range → IndexPart
 index_step layer = record {
-  written = roll-Index (map-Index Part IndexPart Scalar Range Expr Index Scalar Range (λ p. p.written) (λ p. p.written) (λ s. s) (λ r. r) layer);
+  written =
+      roll-Index (map-Index Part IndexPart Scalar Range Expr Index Scalar Range (λ p. p.written) (λ p. p.written) (λ s. s) (λ r. r) layer);
   shape = shape_of layer;
 }
 
 abbrev pub scalar_step : Scalar-F Part IndexPart Scalar Range → Scalar
-scalar_step layer = roll-Scalar (map-Scalar Part IndexPart Scalar Range Expr Index Scalar Range (λ p. p.written) (λ p. p.written) (λ s. s) (λ r. r) layer)
+scalar_step layer =
+    roll-Scalar (map-Scalar Part IndexPart Scalar Range Expr Index Scalar Range (λ p. p.written) (λ p. p.written) (λ s. s) (λ r. r) layer)
 
 abbrev pub range_step : Range-F Part IndexPart Scalar Range → Range
-range_step layer = roll-Range (map-Range Part IndexPart Scalar Range Expr Index Scalar Range (λ p. p.written) (λ p. p.written) (λ s. s) (λ r. r) layer)
+range_step layer =
+    roll-Range (map-Range Part IndexPart Scalar Range Expr Index Scalar Range (λ p. p.written) (λ p. p.written) (λ s. s) (λ r. r) layer)
 
 abbrev pub part_of : Names → Place → Expr → Part
 part_of names place = fold-Expr Part IndexPart Scalar Range (expr_step names place) index_step scalar_step range_step

@@ -1,6 +1,6 @@
--- Indexes (OpenQASM 3.0 live specification, "Index sets and slicing" and "Register concatenation and slicing"; Cross et al. 2022). A place i
--- of n may be written i or i − n. A single index may be any whole expression, and is in its range where it is constant as a whole; the start,
--- the step and the end of a range are constant, and both ends belong to it.
+-- Indexes (OpenQASM 3.0 live specification, "Index sets and slicing" and "Register concatenation and slicing"; Cross et al. 2022). A
+-- place i of n may be written i or i − n. A single index may be any whole expression, and is in its range where it is constant as a
+-- whole; the start, the step and the end of a range are constant, and both ends belong to it.
 use Rattle.std.specs.Prelude.{ℕ, suc, ◌+◌, ◌-◌, ◌*◌, ◌/◌, min, nat_le, ◌&&◌, ℤ, pos, negsuc, Bool, true, false, not, if◌then◌else◌, List, [], ◌∷◌, ◌++◌, length, Option, Some, None, Ok, Err}
 use Rattle.qt_const.specs.Indexes.{place_in, step_in, has_places}
 use Rattle.qt_const.specs.Value.{or_else}

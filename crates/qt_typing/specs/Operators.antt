@@ -25,6 +25,7 @@ use Rattle.qt_value.specs.declared.operators.UnaryOp.TheVariants as unary
 use Rattle.qt_value.specs.declared.types.ValueType.{ValueType}
 use Rattle.qt_value.specs.declared.types.ValueType.TheVariants as kind
 use Rattle.qt_typing.specs.declared.names.Names.{Names}
+use Rattle.qt_typing.specs.declared.operand.Beside.{Beside}
 use Rattle.qt_typing.specs.declared.operand.Operand.{Operand}
 use Rattle.qt_typing.specs.declared.operand.Operand.TheVariants as operand
 use Rattle.qt_typing.specs.Checked.{Checked, and_then, answer_at}
@@ -53,12 +54,7 @@ unfoldable pub operator_form : Mode → Op → ValueType → ValueType → Typed
 operator_form mode.Exact op.Div l r left right = quotient_form (is_whole l && is_whole r) left right
 operator_form m op l r left right = typed.Binary op left right
 
--- what stands beside an operand of the first type, and the type of the result: a value, a known phase as an angle, or 0
-pub record Beside : Type 0 where
-  pub kind : ValueType
-  pub form : TypedExpr
-  pub result : ValueType
-
+-- what stands beside an operand, where a row gives the type of the result
 abbrev pub beside : ValueType → TypedExpr → Option ValueType → Place → Checked Beside
 beside kind form None place = Err (refusal.E10 place)
 beside kind form (Some result) place = Ok (record { kind = kind; form = form; result = result })
@@ -104,8 +100,10 @@ abbrev pub joined_left : Mode → Op → ValueType → TypedExpr → Beside → 
 joined_left m op right form b = operand.Value b.result (operator_form m op b.kind right b.form form)
 
 -- two values: by their row, or where the right or the left one is 0 beside an angle
-unfoldable pub two_values : Names → Mode → Place → Op → ValueType → TypedExpr → Expr → ValueType → TypedExpr → Expr → Option ValueType → Checked Operand
-two_values names m place op l left written_left r right written_right (Some result) = Ok (operand.Value result (operator_form m op l r left right))
+unfoldable pub two_values : Names → Mode → Place → Op → ValueType → TypedExpr → Expr → ValueType → TypedExpr → Expr
+    → Option ValueType → Checked Operand
+two_values names m place op l left written_left r right written_right (Some result) =
+    Ok (operand.Value result (operator_form m op l r left right))
 two_values names m place op l left written_left (kind.Angle n) right written_right None =
     and_then (zero_beside names m place op (kind.Angle n) written_left) (λ b. Ok (joined_left m op (kind.Angle n) right b))
 two_values names m place op l left written_left r right written_right None =
@@ -148,11 +146,14 @@ phase_second names m place op l left written right known =
 -- ---- all operators but `&&` and `||`
 
 unfoldable pub combined : Names → Mode → Place → Op → Expr → Operand → Expr → Operand → Checked Operand
-combined names m place op wl (operand.Value l left) wr (operand.Value r right) = two_values names m place op l left wl r right wr (result_type op l r)
+combined names m place op wl (operand.Value l left) wr (operand.Value r right) =
+    two_values names m place op l left wl r right wr (result_type op l r)
 combined names m place op wl (operand.Value l left) wr (operand.Phase q) = phase_second names m place op l left wl (phase.Fixed q) (Ok q)
-combined names m place op wl (operand.Value l left) wr (operand.Open right) = phase_second names m place op l left wl right (phase_at names m place wr)
+combined names m place op wl (operand.Value l left) wr (operand.Open right) =
+    phase_second names m place op l left wl right (phase_at names m place wr)
 combined names m place op wl (operand.Phase p) wr (operand.Value r right) = phase_first names m place op (phase.Fixed p) (Ok p) r right wr
-combined names m place op wl (operand.Open left) wr (operand.Value r right) = phase_first names m place op left (phase_at names m place wl) r right wr
+combined names m place op wl (operand.Open left) wr (operand.Value r right) =
+    phase_first names m place op left (phase_at names m place wl) r right wr
 combined names m place op wl (operand.Phase p) wr (operand.Phase q) = two_phases place op (phase.Fixed p) (phase.Fixed q)
 combined names m place op wl (operand.Phase p) wr (operand.Open right) = two_phases place op (phase.Fixed p) right
 combined names m place op wl (operand.Open left) wr (operand.Phase q) = two_phases place op left (phase.Fixed q)

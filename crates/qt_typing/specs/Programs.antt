@@ -1,5 +1,6 @@
--- The typing of a program (OpenQASM 3.0 live specification, "Version string", "Input/output", "Included files" and "Scoping of variables"; Cross
--- et al. 2022): its versions, then its items in the order of text, then how many qubits and slots it has. `items_built` says of which programs.
+-- The typing of a program (OpenQASM 3.0 live specification, "Version string", "Input/output", "Included files" and "Scoping of
+-- variables"; Cross et al. 2022): its versions, then its items in the order of text, then how many qubits and slots it has. `items_built`
+-- says of which programs.
 use Rattle.std.specs.Prelude.{ℕ, ◌+◌, nat_eq, nat_lt, ◌&&◌, ◌||◌, Bool, true, false, not, codes, if◌then◌else◌, List, [], ◌∷◌, ◌++◌, Option, Some, None, Ok, Err}
 use Rattle.std.specs.Cmp.Lexicographic.{pointwise}
 use Rattle.qt_gate_calls.specs.Standard.{standard_bodies}
@@ -118,7 +119,8 @@ item_typing (item.Output place scalar name) = counted (io_tokens scalar) (output
 item_typing (item.Qubit place size name) = counted (qubit_tokens size) (qubit_declaration place size name)
 item_typing (item.QubitRegister place name size) = counted (qubit_tokens size) (qubit_register place name size)
 item_typing (item.Array a) =
-    simple (record { place = a.place; tokens = array_tokens a.scalar a.dimensions a.value }) (array_of a.place a.scalar a.dimensions a.name a.value)
+    simple (record { place =
+        a.place; tokens = array_tokens a.scalar a.dimensions a.value }) (array_of a.place a.scalar a.dimensions a.name a.value)
 item_typing (item.Gate gate) = not_yet gate.place
 item_typing (item.Definition d) = silent (definition d)
 item_typing (item.Statement statement) = statement_typing statement at_top
@@ -176,7 +178,8 @@ program_at end s body = record (unsized end s body) { size = told (s.tokens + si
 
 unfoldable pub numbers_fit : State → Checked (Unit {0})
 numbers_fit s =
-    and_then (unless (nat_lt most_qubits s.qubits) (refusal.E15 (told s.qubits))) (λ _. unless (nat_lt most_slots s.slots) (refusal.E16 s.slots))
+    and_then (unless (nat_lt most_qubits s.qubits) (refusal.E15 (told s.qubits))) (λ _. unless (nat_lt most_slots s.slots) (refusal.E16
+        s.slots))
 
 unfoldable pub typing_of : Program → Checked Typed
 typing_of program =

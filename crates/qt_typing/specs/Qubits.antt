@@ -1,5 +1,5 @@
--- Which qubits an operand names (OpenQASM 3.0 live specification, "Quantum types" and "Index sets and slicing"; Cross et al. 2022): a single
--- qubit, or a register in the order of its places. Ranges and sets are constant; a single index may be known in the run alone.
+-- Which qubits an operand names (OpenQASM 3.0 live specification, "Quantum types" and "Index sets and slicing"; Cross et al. 2022): a
+-- single qubit, or a register in the order of its places. Ranges and sets are constant; a single index may be known in the run alone.
 use Rattle.std.specs.Prelude.{ℕ, nat_eq, ◌&&◌, ◌||◌, Bool, true, false, not, if◌then◌else◌, List, [], ◌∷◌, ◌++◌, length, slice_get, Option, Some, None, Ok, Err}
 use Rattle.qt_const.specs.Indexes.{place_in}
 use Rattle.qt_const_rules.specs.declared.modes.Mode.TheVariants as mode

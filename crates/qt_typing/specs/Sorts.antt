@@ -1,5 +1,6 @@
--- Which expressions are phases and angles, by their names and operators, and which are constant as a whole (OpenQASM 3.0 live specification,
--- "Types and Casting", angles and compile-time constants; Cross et al. 2022). Neither is a judgement: both are told of every expression.
+-- Which expressions are phases and angles, by their names and operators, and which are constant as a whole (OpenQASM 3.0 live
+-- specification, "Types and Casting", angles and compile-time constants; Cross et al. 2022). Neither is a judgement: both are told of
+-- every expression.
 use Rattle.std.specs.Prelude.{ℕ, nat_eq, ◌&&◌, Bool, true, false, not, List, [], ◌∷◌, length, Option, Some, None}
 use Rattle.qt_const.specs.Value.{count_of}
 use Rattle.qt_const_rules.specs.Sorts.{sort_of_type, sort_of_infix, sort_of_prefix}

@@ -1,6 +1,6 @@
 -- The typing of statements (OpenQASM 3.0 live specification, "Classical instructions", "Built-in quantum instructions" and "Scoping of
--- variables"; Cross et al. 2022), one line a form. Within a statement judgements go from left to right, and the target's come after the right
--- side's. A body is a scope of its own. A statement that does nothing when it runs has no typed form.
+-- variables"; Cross et al. 2022), one line a form. Within a statement judgements go from left to right, and the target's come after the
+-- right side's. A body is a scope of its own. A statement that does nothing when it runs has no typed form.
 use Rattle.std.specs.Prelude.{ℕ, ◌+◌, Bool, true, false, not, ◌&&◌, if◌then◌else◌, List, [], ◌∷◌, ◌++◌, length, Option, Some, None, Ok, Err}
 use Rattle.qt_const_rules.specs.declared.modes.Mode.TheVariants as mode
 use Rattle.qt_names.specs.Entries.{Name}
@@ -57,7 +57,8 @@ use Rattle.qt_typing.specs.Checked.{Checked, and_then, unless}
 use Rattle.qt_typing.specs.Environment.{Typing, ◌>>=◌, pure, seen, type_at, take_slots, span_from, enter, leave}
 use Rattle.qt_typing.specs.Conversions.{Unwritten, wanted, truth_at}
 use Rattle.qt_typing.specs.Indexes.{Storage, free_index}
-use Rattle.qt_typing.specs.Operators.{Beside, right_beside}
+use Rattle.qt_typing.specs.declared.operand.Beside.{Beside}
+use Rattle.qt_typing.specs.Operators.{right_beside}
 use Rattle.qt_typing.specs.Expressions.{typed_of, storage_of, or_unfit, named_constant}
 use Rattle.qt_typing.specs.Qubits.{operand_qubits}
 use Rattle.qt_typing.specs.Targets.{target_at, measured_target}
@@ -263,7 +264,8 @@ branching at around condition body otherwise = seen (condition_at at.place condi
 
 unfoldable pub while_body : Spot → Around → List Reading → TypedExpr → Typing (Option TypedStatement)
 while_body at around body test = λ s.
-    (scoped (in_loop around) body >>= (λ a. pure (Some (typed.Loop at (loop.While test) (span_from s.slots s.slots) a.statements a.slots)))) s
+    (scoped (in_loop around) body >>= (λ a. pure (Some (typed.Loop at (loop.While test) (span_from s.slots s.slots) a.statements
+        a.slots)))) s
 
 unfoldable pub while_loop : Spot → Around → Expr → List Reading → Typing (Option TypedStatement)
 while_loop at around condition body = seen (condition_at at.place condition) >>= while_body at around body

@@ -1,6 +1,6 @@
--- Subroutines (OpenQASM 3.0 live specification, "Subroutines" and "Scoping of variables"; Cross et al. 2022). A subroutine has a frame of its own:
--- its result, its parameters, its body. It sees its parameters and the global constants, gates and subroutines before it. Its name is judged
--- first, then its parameters, its result and its body; it is in scope behind the definition alone.
+-- Subroutines (OpenQASM 3.0 live specification, "Subroutines" and "Scoping of variables"; Cross et al. 2022). A subroutine has a frame of
+-- its own: its result, its parameters, its body. It sees its parameters and the global constants, gates and subroutines before it. Its
+-- name is judged first, then its parameters, its result and its body; it is in scope behind the definition alone.
 use Rattle.std.specs.Prelude.{ℕ, false, List, [], ◌∷◌, ◌++◌, length, map, Option, Some, None, Ok, Err}
 use Rattle.qt_const_rules.specs.declared.consts.Known.TheVariants as known
 use Rattle.qt_const_rules.specs.declared.modes.Mode.TheVariants as mode

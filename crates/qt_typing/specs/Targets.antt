@@ -1,5 +1,5 @@
--- What is assigned to (OpenQASM 3.0 live specification, "Classical instructions" and "Built-in quantum instructions", measurement; Cross et al.
--- 2022): a variable, an element of an array, or bits of one. A target is judged after the right side.
+-- What is assigned to (OpenQASM 3.0 live specification, "Classical instructions" and "Built-in quantum instructions", measurement; Cross
+-- et al. 2022): a variable, an element of an array, or bits of one. A target is judged after the right side.
 use Rattle.std.specs.Prelude.{ℕ, ◌&&◌, Bool, true, false, not, List, [], ◌∷◌, map, Option, Some, None, Ok, Err}
 use Rattle.qt_const_rules.specs.declared.modes.Mode.TheVariants as mode
 use Rattle.qt_names.specs.Entries.{Name}

@@ -1,5 +1,5 @@
--- How many tokens stand in a statement without its bodies (OpenQASM 3.0 live specification, "Classical instructions"; the size of a program, which
--- counts them, is this profile's).
+-- How many tokens stand in a statement without its bodies (OpenQASM 3.0 live specification, "Classical instructions"; the size of a
+-- program, which counts them, is this profile's).
 use Rattle.std.specs.Prelude.{ℕ, ◌+◌, List, [], ◌∷◌, map, Option, Some, None}
 use Rattle.qt_tree.specs.declared.expression.Expr.{Expr}
 use Rattle.qt_tree.specs.declared.expression.Expr.TheOpen as e

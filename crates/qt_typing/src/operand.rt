@@ -14,3 +14,11 @@ pub enum Operand {
     /// A phase that rests on variables.
     Open { form: TypedPhase },
 }
+
+/// What stands beside an operand, its type, and the type of the operator's result: a value, a phase as an angle, or 0.
+#[derive(Drop)]
+pub struct Beside {
+    pub kind: ValueType,
+    pub form: TypedExpr,
+    pub result: ValueType,
+}
