@@ -224,8 +224,7 @@ pub fn wanted(
         Operand::Value { kind, form } => {
             value_wanted(alloc, names, mode, place, to, written, kind, form)
         }
-        Operand::Phase { phase } => phase_as(place, to, phase),
-        Operand::Open { .. } => {
+        Operand::Phase { .. } => {
             let phase = phase_at(alloc, names, mode, place, written)?;
             phase_as(place, to, phase)
         }
@@ -272,8 +271,7 @@ pub fn cast_of(
         Operand::Value { kind, form } => {
             value_cast(alloc, names, mode, place, to, written, kind, form)
         }
-        Operand::Phase { phase } => phase_as(place, to, phase),
-        Operand::Open { .. } => {
+        Operand::Phase { .. } => {
             let phase = phase_at(alloc, names, mode, place, written)?;
             phase_as(place, to, phase)
         }
@@ -288,6 +286,5 @@ pub fn truth_at(alloc: Global, place: Place, of: Operand) -> Result<TypedExpr, T
     match of {
         Operand::Value { kind, form } => as_type(alloc, place, ValueType::Bool, kind, form),
         Operand::Phase { .. } => Err(TextRefusal::E10(place)),
-        Operand::Open { .. } => Err(TextRefusal::E10(place)),
     }
 }

@@ -68,12 +68,8 @@ pub fn before_operand(
 {
     match of {
         Operand::Value { kind, form } => unary_row(alloc, place, operator, kind, form),
-        Operand::Phase { phase } => match operator {
-            UnaryOp::Neg => Ok(Operand::Phase { phase: phase.neg() }),
-            _ => Err(TextRefusal::E10(place)),
-        },
-        Operand::Open { form } => match operator {
-            UnaryOp::Neg => Ok(Operand::Open {
+        Operand::Phase { form } => match operator {
+            UnaryOp::Neg => Ok(Operand::Phase {
                 form: negative(alloc, form)?,
             }),
             _ => Err(TextRefusal::E10(place)),

@@ -99,8 +99,7 @@ wanted way names m place to written (operand.Value from form) =
     if is_same from to then Ok form else
     if converts way from to then Ok (typed.Convert to form) else
     zero_as names m place to written
-wanted way names m place to written (operand.Phase p) = phase_as place to p
-wanted way names m place to written (operand.Open form) = and_then (phase_at names m place written) (phase_as place to)
+wanted way names m place to written (operand.Phase form) = and_then (phase_at names m place written) (phase_as place to)
 
 -- an operand where a truth value is wanted
 unfoldable pub truth_at : Place → Operand → Checked TypedExpr

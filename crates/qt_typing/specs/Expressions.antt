@@ -1,6 +1,6 @@
 -- The typing of expressions (OpenQASM 3.0 live specification, "Types and Casting" and "Classical instructions"; Cross et al. 2022).
 -- A form's typing is made of those of its parts, one line a form: a name before its indexes, an operator's operands before it. A part keeps
--- how it is written, since some parts have to be constant. A phase that is constant as a whole is reckoned at once.
+-- how it is written, since some parts have to be constant. A phase is typed before it is reckoned.
 use Rattle.std.specs.Prelude.{ℕ, ◌-◌, ◌^◌, min, nat_eq, Bool, true, false, ◌&&◌, if◌then◌else◌, ℤ, pos, List, [], ◌∷◌, ◌++◌, length, Option, Some, None, Result, Ok, Err}
 use Rattle.qt_const.specs.Constants.{named}
 use Rattle.qt_const.specs.Operators.{op_of_infix, op_of_prefix}
@@ -50,7 +50,7 @@ use Rattle.qt_typing.specs.declared.operand.Operand.TheVariants as operand
 use Rattle.qt_typing.specs.Checked.{Checked, and_then, answer_at, told}
 use Rattle.qt_typing.specs.Environment.{constant_at, type_at}
 use Rattle.qt_typing.specs.Conversions.{Written, Unwritten, wanted}
-use Rattle.qt_typing.specs.Sorts.{sort_at, is_phase, is_fixed}
+use Rattle.qt_typing.specs.Sorts.{sort_at}
 use Rattle.qt_typing.specs.Indexes.{Part, Shape, Single, Bounds, Several, IndexPart, Storage, Reached, Steps, reached, steps_from}
 use Rattle.qt_typing.specs.Operators.{before_operand, unary_row, combined, both_true}
 use Rattle.qt_value.specs.OpTypes.{unary_result_type}
@@ -59,7 +59,7 @@ use Rattle.qt_value.specs.OpTypes.{unary_result_type}
 
 unfoldable pub of_constant : ConstValue → Operand
 of_constant (constant.Value x) = operand.Value x.kind (typed.Constant x)
-of_constant (constant.Phase p) = operand.Phase p
+of_constant (constant.Phase p) = operand.Phase (phase.Fixed p)
 
 unfoldable pub constant_operand : Names → Mode → Place → Expr → Checked Operand
 constant_operand names m place whole = and_then (constant_at names m place whole) (λ c. Ok (of_constant c))
@@ -180,8 +180,8 @@ as_written layer =
 abbrev pub form_typed : Names → Mode → Place → Expr → Expr-F Part IndexPart Scalar Range → Checked Operand
 form_typed names m place whole (e.Whole n) = constant_operand names m place whole
 form_typed names m place whole (e.BitText bits length) = constant_operand names m place whole
-form_typed names m place whole e.Pi = Ok (operand.Open (phase.Fixed (pos (2 ^ 32))))
-form_typed names m place whole e.Tau = Ok (operand.Open (phase.Fixed (pos (2 ^ 33))))
+form_typed names m place whole e.Pi = Ok (operand.Phase (phase.Fixed (pos (2 ^ 32))))
+form_typed names m place whole e.Tau = Ok (operand.Phase (phase.Fixed (pos (2 ^ 33))))
 form_typed names m place whole (e.Expr::Bool b) = constant_operand names m place whole
 form_typed names m place whole (e.Parenthesized inner) = inner.typed m
 form_typed names m place whole (e.Name name brackets) =
@@ -197,19 +197,10 @@ form_typed names m place whole (e.Unary operator x) = and_then (x.typed m) (befo
 form_typed names m place whole (e.Binary operator left right) =
     between_operands names (inner_mode names m operator left right) place operator (op_of_infix operator) left right
 
--- a phase that is constant as a whole, and doesn't stand inside of one that isn't
-abbrev pub is_reckoned : Names → Mode → Expr → Bool
-is_reckoned names mode.Exact whole = false
-is_reckoned names _ whole = is_phase (sort_at names whole) && is_fixed names whole
-
-abbrev pub typed_in : Names → Mode → Place → Expr → Expr-F Part IndexPart Scalar Range → Checked Operand
-typed_in names m place whole layer =
-    if is_reckoned names m whole then constant_operand names m place whole else form_typed names m place whole layer
-
 -- ---- whole trees
 
 abbrev pub expr_step : Names → Place → Expr-F Part IndexPart Scalar Range → Part
-expr_step names place layer = record { written = as_written layer; typed = λ m. typed_in names m place (as_written layer) layer }
+expr_step names place layer = record { written = as_written layer; typed = λ m. form_typed names m place (as_written layer) layer }
 
 abbrev pub shape_of : Index-F Part IndexPart Scalar Range → Shape
 shape_of (e.At part) = Single part

@@ -49,22 +49,23 @@ pub record IndexPart : Type 0 where
 abbrev pub place_form : ℕ → TypedExpr
 place_form n = typed.Constant (record { kind = kind.Int 64; bits = n })
 
--- a constant index into n places, of what has places at all
-unfoldable pub fixed_place : Names → Mode → Place → Bool → ℕ → Expr → Checked ℕ
-fixed_place names m place fits n written =
-    and_then (number_at names m place written) (λ i.
-    and_then (unless (not fits) (refusal.E10 place)) (λ _. answer_at place (place_in n i)))
+-- a whole number, of what has places at all
+unfoldable pub whole_index : Place → Bool → Operand → Checked TypedExpr
+whole_index place fits (operand.Value kind form) = if is_whole kind && fits then Ok form else Err (refusal.E10 place)
+whole_index place fits _ = Err (refusal.E10 place)
 
--- one that is known in the run
-unfoldable pub free_index : Place → Bool → Operand → Checked TypedExpr
-free_index place fits (operand.Value kind form) = if is_whole kind && fits then Ok form else Err (refusal.E10 place)
-free_index place fits _ = Err (refusal.E10 place)
+-- the place of n that a constant index is written for
+unfoldable pub fixed_place : Names → Mode → Place → ℕ → Expr → Checked ℕ
+fixed_place names m place n written = and_then (number_at names m place written) (λ i. answer_at place (place_in n i))
 
+-- an index is typed first, and is in its range where it is constant as a whole
 unfoldable pub single_index : Names → Mode → Place → Bool → ℕ → Part → Checked TypedExpr
 single_index names m place fits n part =
+    and_then (part.typed m) (λ x.
+    and_then (whole_index place fits x) (λ form.
     if is_fixed names part.written
-    then and_then (fixed_place names m place fits n part.written) (λ i. Ok (place_form i))
-    else and_then (part.typed m) (free_index place fits)
+    then and_then (fixed_place names m place n part.written) (λ i. Ok (place_form i))
+    else Ok form))
 
 -- ---- ranges
 

@@ -1,7 +1,7 @@
 -- Operators between typed operands (OpenQASM 3.0 live specification, "Classical instructions" and "Types and Casting", angles; Cross et al.
 -- 2022). The table of operators gives the type of two values. A phase beside an angle is constant and becomes an angle of that width; the
 -- constant whole number 0 counts as phase 0 where no row fits. Phase ± phase, −phase, phase × whole and phase / whole are phases.
-use Rattle.std.specs.Prelude.{ℕ, ◌&&◌, Bool, true, false, if◌then◌else◌, ℤ, pos, neg_ℤ, Option, Some, None, Ok, Err}
+use Rattle.std.specs.Prelude.{ℕ, ◌&&◌, Bool, true, false, if◌then◌else◌, ℤ, pos, Option, Some, None, Ok, Err}
 use Rattle.qt_const_rules.specs.Angles.{angle_of}
 use Rattle.qt_const_rules.specs.declared.modes.Mode.{Mode}
 use Rattle.qt_const_rules.specs.declared.modes.Mode.TheVariants as mode
@@ -39,8 +39,7 @@ unary_row place op form (Some kind) = Ok (operand.Value kind (typed.Unary op for
 
 unfoldable pub before_operand : Place → UnaryOp → Operand → Checked Operand
 before_operand place op (operand.Value kind form) = unary_row place op form (unary_result_type op kind)
-before_operand place unary.Neg (operand.Phase p) = Ok (operand.Phase (neg_ℤ p))
-before_operand place unary.Neg (operand.Open form) = Ok (operand.Open (phase.Neg form))
+before_operand place unary.Neg (operand.Phase form) = Ok (operand.Phase (phase.Neg form))
 before_operand place _ _ = Err (refusal.E10 place)
 
 -- ---- two values
@@ -90,8 +89,7 @@ value_beside names m place op left right form written None = zero_beside names m
 unfoldable pub right_beside : Names → Mode → Place → Op → ValueType → Expr → Operand → Checked Beside
 right_beside names m place op left written (operand.Value kind form) =
     value_beside names m place op left kind form written (result_type op left kind)
-right_beside names m place op left written (operand.Phase p) = phase_beside_value place op left (Ok p)
-right_beside names m place op left written (operand.Open form) = phase_beside_value place op left (phase_at names m place written)
+right_beside names m place op left written (operand.Phase form) = phase_beside_value place op left (phase_at names m place written)
 
 abbrev pub joined : Mode → Op → ValueType → TypedExpr → Beside → Operand
 joined m op left form b = operand.Value b.result (operator_form m op left b.kind form b.form)
@@ -111,10 +109,9 @@ two_values names m place op l left written_left r right written_right None =
 
 -- ---- phases
 
--- a phase that isn't reckoned yet
 abbrev pub two_phases : Place → Op → TypedPhase → TypedPhase → Checked Operand
-two_phases place op.Add left right = Ok (operand.Open (phase.Add left right))
-two_phases place op.Sub left right = Ok (operand.Open (phase.Sub left right))
+two_phases place op.Add left right = Ok (operand.Phase (phase.Add left right))
+two_phases place op.Sub left right = Ok (operand.Phase (phase.Sub left right))
 two_phases place _ left right = Err (refusal.E10 place)
 
 abbrev pub no_phase : TypedPhase
@@ -122,15 +119,15 @@ no_phase = phase.Fixed (pos 0)
 
 -- a phase and a whole number behind it, which counts as phase 0 where it is the constant 0
 unfoldable pub phase_and_whole : Place → Op → Bool → TypedPhase → TypedExpr → Checked Operand
-phase_and_whole place op.Mul zero left right = Ok (operand.Open (phase.Times left right))
-phase_and_whole place op.Div zero left right = Ok (operand.Open (phase.Over left right))
+phase_and_whole place op.Mul zero left right = Ok (operand.Phase (phase.Times left right))
+phase_and_whole place op.Div zero left right = Ok (operand.Phase (phase.Over left right))
 phase_and_whole place op zero left right = if zero then two_phases place op left no_phase else Err (refusal.E10 place)
 
 unfoldable pub whole_and_phase : Place → Op → Bool → TypedExpr → TypedPhase → Checked Operand
-whole_and_phase place op.Mul zero left right = Ok (operand.Open (phase.Scaled left right))
+whole_and_phase place op.Mul zero left right = Ok (operand.Phase (phase.Scaled left right))
 whole_and_phase place op zero left right = if zero then two_phases place op no_phase right else Err (refusal.E10 place)
 
--- a phase on the left of a value, and on its right; `known` is its units where it has to be constant
+-- a phase on the left of a value, and on its right; `known` is its units, where it has to be constant
 unfoldable pub phase_first : Names → Mode → Place → Op → TypedPhase → Checked ℤ → ValueType → TypedExpr → Expr → Checked Operand
 phase_first names m place op left known (kind.Angle n) right written =
     and_then (phase_beside place n (angle_row op n) known) (λ b. Ok (joined_left m op (kind.Angle n) right b))
@@ -148,16 +145,11 @@ phase_second names m place op l left written right known =
 unfoldable pub combined : Names → Mode → Place → Op → Expr → Operand → Expr → Operand → Checked Operand
 combined names m place op wl (operand.Value l left) wr (operand.Value r right) =
     two_values names m place op l left wl r right wr (result_type op l r)
-combined names m place op wl (operand.Value l left) wr (operand.Phase q) = phase_second names m place op l left wl (phase.Fixed q) (Ok q)
-combined names m place op wl (operand.Value l left) wr (operand.Open right) =
+combined names m place op wl (operand.Value l left) wr (operand.Phase right) =
     phase_second names m place op l left wl right (phase_at names m place wr)
-combined names m place op wl (operand.Phase p) wr (operand.Value r right) = phase_first names m place op (phase.Fixed p) (Ok p) r right wr
-combined names m place op wl (operand.Open left) wr (operand.Value r right) =
+combined names m place op wl (operand.Phase left) wr (operand.Value r right) =
     phase_first names m place op left (phase_at names m place wl) r right wr
-combined names m place op wl (operand.Phase p) wr (operand.Phase q) = two_phases place op (phase.Fixed p) (phase.Fixed q)
-combined names m place op wl (operand.Phase p) wr (operand.Open right) = two_phases place op (phase.Fixed p) right
-combined names m place op wl (operand.Open left) wr (operand.Phase q) = two_phases place op left (phase.Fixed q)
-combined names m place op wl (operand.Open left) wr (operand.Open right) = two_phases place op left right
+combined names m place op wl (operand.Phase left) wr (operand.Phase right) = two_phases place op left right
 
 -- ---- `&&` and `||`, whose operands stand before they have to be truth values
 

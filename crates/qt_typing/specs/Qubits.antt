@@ -1,7 +1,6 @@
 -- Which qubits an operand names (OpenQASM 3.0 live specification, "Quantum types" and "Index sets and slicing"; Cross et al. 2022): a
 -- single qubit, or a register in the order of its places. Ranges and sets are constant; a single index may be known in the run alone.
 use Rattle.std.specs.Prelude.{ℕ, nat_eq, ◌&&◌, ◌||◌, Bool, true, false, not, if◌then◌else◌, List, [], ◌∷◌, ◌++◌, length, slice_get, Option, Some, None, Ok, Err}
-use Rattle.qt_const.specs.Indexes.{place_in}
 use Rattle.qt_const_rules.specs.declared.modes.Mode.TheVariants as mode
 use Rattle.qt_names.specs.Entries.{Name}
 use Rattle.qt_names.specs.Scopes.{finding}
@@ -28,12 +27,12 @@ use Rattle.qt_typed.specs.declared.call.TypedQubit.{TypedQubit}
 use Rattle.qt_typed.specs.declared.call.TypedQubit.TheVariants as qubit
 use Rattle.qt_typed.specs.declared.call.TypedQubits.{TypedQubits}
 use Rattle.qt_typed.specs.declared.call.TypedQubits.TheVariants as qubits
+use Rattle.qt_typed.specs.declared.expression.TypedExpr.{TypedExpr}
 use Rattle.qt_value.specs.declared.types.ValueType.{ValueType}
 use Rattle.qt_typing.specs.declared.names.Names.{Names}
-use Rattle.qt_typing.specs.Checked.{Checked, and_then, answer_at, unless, or_refuse, told}
-use Rattle.qt_typing.specs.Environment.{number_at}
+use Rattle.qt_typing.specs.Checked.{Checked, and_then, unless, or_refuse, told}
 use Rattle.qt_typing.specs.Sorts.{is_fixed}
-use Rattle.qt_typing.specs.Indexes.{Slice, free_index, range_places}
+use Rattle.qt_typing.specs.Indexes.{Slice, whole_index, fixed_place, range_places}
 use Rattle.qt_typing.specs.Expressions.{or_unfit, typed_of}
 
 -- ---- what names stand for qubits
@@ -107,21 +106,21 @@ is_register (qubits.Single q) = false
 -- the qubit at a constant index
 unfoldable pub fixed_in : Names → Place → List FixedQubit → Expr → Checked FixedQubit
 fixed_in names place register expr =
-    and_then (number_at names mode.Plain place expr) (λ i.
-    and_then (answer_at place (place_in (length register) i)) (λ n. or_refuse (refusal.E12 place cause.Range) (slice_get register n)))
+    and_then (fixed_place names mode.Plain place (length register) expr) (λ n.
+    or_refuse (refusal.E12 place cause.Range) (slice_get register n))
 
-unfoldable pub fixed_at : Names → Place → TypedQubits → Expr → Checked TypedQubits
-fixed_at names place of expr =
-    and_then (number_at names mode.Plain place expr) (λ i.
-    and_then (register_of place of) (λ register.
-    and_then (answer_at place (place_in (length register) i)) (λ n.
-    and_then (or_refuse (refusal.E12 place cause.Range) (slice_get register n)) (λ q. Ok (qubits.Single (qubit.Fixed q))))))
+unfoldable pub indexed_in : Names → Place → List FixedQubit → Expr → TypedExpr → Checked TypedQubits
+indexed_in names place register expr form =
+    if is_fixed names expr
+    then and_then (fixed_in names place register expr) (λ q. Ok (qubits.Single (qubit.Fixed q)))
+    else Ok (qubits.Single (qubit.Indexed register form))
 
-unfoldable pub free_at : Names → Place → TypedQubits → Expr → Checked TypedQubits
-free_at names place of expr =
+-- an index is typed first
+unfoldable pub qubit_in : Names → Place → TypedQubits → Expr → Checked TypedQubits
+qubit_in names place of expr =
     and_then (typed_of names mode.Plain place expr) (λ x.
-    and_then (free_index place true x) (λ form.
-    and_then (register_of place of) (λ register. Ok (qubits.Single (qubit.Indexed register form)))))
+    and_then (whole_index place true x) (λ form.
+    and_then (register_of place of) (λ register. indexed_in names place register expr form)))
 
 unfoldable pub qubits_in_range : Names → Place → TypedQubits → Range → Checked TypedQubits
 qubits_in_range names place of range =
@@ -141,7 +140,7 @@ qubits_in_set names place of exprs =
     and_then (set_from names place register [] exprs) (λ chosen. Ok (qubits.Register chosen)))
 
 abbrev pub qubits_by : Names → Place → TypedQubits → Index-F Expr Index Scalar Range → Checked TypedQubits
-qubits_by names place of (e.At expr) = if is_fixed names expr then fixed_at names place of expr else free_at names place of expr
+qubits_by names place of (e.At expr) = qubit_in names place of expr
 qubits_by names place of (e.Range range) = qubits_in_range names place of range
 qubits_by names place of (e.Set exprs) = qubits_in_set names place of exprs
 

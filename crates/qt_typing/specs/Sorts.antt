@@ -53,10 +53,6 @@ sort_at names = fold-Expr Sort (Unit {0}) Sort (Unit {0}) (expr_sort names) (λ 
 abbrev pub scalar_sort_at : Names → Scalar → Sort
 scalar_sort_at names = fold-Scalar Sort (Unit {0}) Sort (Unit {0}) (expr_sort names) (λ index. tt) scalar_sort (λ range. tt)
 
-abbrev pub is_phase : Sort → Bool
-is_phase sort.Phase = true
-is_phase _ = false
-
 -- ---- constant as a whole: no name in it is that of a variable
 
 abbrev pub is_variable_kind : What → Option ValueType → Bool

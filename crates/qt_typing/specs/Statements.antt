@@ -56,7 +56,7 @@ use Rattle.qt_typing.specs.declared.state.State.{State}
 use Rattle.qt_typing.specs.Checked.{Checked, and_then, unless}
 use Rattle.qt_typing.specs.Environment.{Typing, ◌>>=◌, pure, seen, type_at, take_slots, span_from, enter, leave}
 use Rattle.qt_typing.specs.Conversions.{Unwritten, wanted, truth_at}
-use Rattle.qt_typing.specs.Indexes.{Storage, free_index}
+use Rattle.qt_typing.specs.Indexes.{Storage, whole_index}
 use Rattle.qt_typing.specs.declared.operand.Beside.{Beside}
 use Rattle.qt_typing.specs.Operators.{right_beside}
 use Rattle.qt_typing.specs.Expressions.{typed_of, storage_of, or_unfit, named_constant}
@@ -148,7 +148,7 @@ return place _ _ = λ s. Err (refusal.E11 place cause.Return)
 
 -- a value that the loop's variable takes
 unfoldable pub loop_value : Place → Expr → Names → Checked TypedExpr
-loop_value place expr names = and_then (typed_of names mode.Plain place expr) (free_index place true)
+loop_value place expr names = and_then (typed_of names mode.Plain place expr) (whole_index place true)
 
 unfoldable pub bound : Place → Option Expr → Names → Checked TypedExpr
 bound place None names = Err (refusal.E10 place)

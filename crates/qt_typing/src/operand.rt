@@ -1,6 +1,5 @@
 //! Expressions that are typed.
 
-use qt_phase::phase::Phase;
 use qt_typed::expression::{TypedExpr, TypedPhase};
 use qt_value::types::ValueType;
 
@@ -9,10 +8,8 @@ use qt_value::types::ValueType;
 pub enum Operand {
     /// One whose value has a type.
     Value { kind: ValueType, form: TypedExpr },
-    /// A phase that is known.
-    Phase { phase: Phase },
-    /// A phase that rests on variables.
-    Open { form: TypedPhase },
+    /// A phase, which isn't reckoned yet.
+    Phase { form: TypedPhase },
 }
 
 /// What stands beside an operand, its type, and the type of the operator's result: a value, a phase as an angle, or 0.
