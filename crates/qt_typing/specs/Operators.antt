@@ -119,13 +119,13 @@ no_phase = phase.Fixed (pos 0)
 
 -- a phase and a whole number behind it, which counts as phase 0 where it is the constant 0
 unfoldable pub phase_and_whole : Place → Op → Bool → TypedPhase → TypedExpr → Checked Operand
-phase_and_whole place op.Mul zero left right = Ok (operand.Phase (phase.Times left right))
-phase_and_whole place op.Div zero left right = Ok (operand.Phase (phase.Over left right))
-phase_and_whole place op zero left right = if zero then two_phases place op left no_phase else Err (refusal.E10 place)
+phase_and_whole place op.Mul is_nil left right = Ok (operand.Phase (phase.Times left right))
+phase_and_whole place op.Div is_nil left right = Ok (operand.Phase (phase.Over left right))
+phase_and_whole place op is_nil left right = if is_nil then two_phases place op left no_phase else Err (refusal.E10 place)
 
 unfoldable pub whole_and_phase : Place → Op → Bool → TypedExpr → TypedPhase → Checked Operand
-whole_and_phase place op.Mul zero left right = Ok (operand.Phase (phase.Scaled left right))
-whole_and_phase place op zero left right = if zero then two_phases place op no_phase right else Err (refusal.E10 place)
+whole_and_phase place op.Mul is_nil left right = Ok (operand.Phase (phase.Scaled left right))
+whole_and_phase place op is_nil left right = if is_nil then two_phases place op no_phase right else Err (refusal.E10 place)
 
 -- a phase on the left of a value, and on its right; `known` is its units, where it has to be constant
 unfoldable pub phase_first : Names → Mode → Place → Op → TypedPhase → Checked ℤ → ValueType → TypedExpr → Expr → Checked Operand
