@@ -9,7 +9,9 @@ pub mod Qubits
 pub mod Targets
 pub mod Calls
 pub mod Declarations
+pub mod Gates
 pub mod Tokens
 pub mod Statements
 pub mod Subroutines
+pub mod GateItems
 pub mod Programs

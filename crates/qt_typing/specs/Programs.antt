@@ -4,6 +4,7 @@
 use Rattle.std.specs.Prelude.{ℕ, ◌+◌, nat_eq, nat_lt, ◌&&◌, ◌||◌, Bool, true, false, not, codes, if◌then◌else◌, List, [], ◌∷◌, ◌++◌, Option, Some, None, Ok, Err}
 use Rattle.std.specs.Cmp.Lexicographic.{pointwise}
 use Rattle.qt_gate_calls.specs.Standard.{standard_bodies}
+use Rattle.qt_gate_calls.specs.declared.body.GateBody.{GateBody}
 use Rattle.qt_names.specs.Entries.{Name}
 use Rattle.qt_tree.specs.declared.expression.Scalar.{Scalar}
 use Rattle.qt_tree.specs.declared.place.Place.{Place}
@@ -35,9 +36,10 @@ use Rattle.qt_typing.specs.Environment.{Typing, ◌>>=◌, pure, seen, take_slot
 use Rattle.qt_typing.specs.Declarations.{qubit_declaration, qubit_register, typed_name, declare_variable, told_at_end, array_of}
 use Rattle.qt_typing.specs.Tokens.{qubit_tokens, io_tokens, array_tokens}
 use Rattle.qt_typing.specs.Statements.{added, not_yet, silent, simple, statement_typing}
+use Rattle.qt_typing.specs.GateItems.{gate_item}
 use Rattle.qt_typing.specs.Subroutines.{definition}
 
--- ---- of which programs the typing is defined so far: no gate is declared or called, and nothing is an input or another text
+-- ---- of which programs the typing is defined so far: nothing is an input or another text
 
 abbrev pub all_built : List Bool → Bool
 all_built [] = true
@@ -48,7 +50,6 @@ optional_built None = true
 optional_built (Some body) = all_built body
 
 abbrev pub form_built : StatementForm-F Bool Bool → Bool
-form_built (s.Gate call) = false
 form_built (s.If condition body otherwise) = all_built body && optional_built otherwise
 form_built (s.While condition body) = all_built body
 form_built (s.For scalar name values body) = all_built body
@@ -67,7 +68,6 @@ is_standard name = pointwise nat_eq name (codes "stdgates.inc")
 abbrev pub item_built : Item → Bool
 item_built (item.Include place name) = is_standard name
 item_built (item.Input place scalar name) = false
-item_built (item.Gate gate) = false
 item_built (item.Definition d) = statements_built d.body
 item_built (item.Statement statement) = statement_built statement
 item_built _ = true
@@ -121,7 +121,7 @@ item_typing (item.QubitRegister place name size) = counted (qubit_tokens size) (
 item_typing (item.Array a) =
     simple (record { place =
         a.place; tokens = array_tokens a.scalar a.dimensions a.value }) (array_of a.place a.scalar a.dimensions a.name a.value)
-item_typing (item.Gate gate) = not_yet gate.place
+item_typing (item.Gate gate) = silent (gate_item gate)
 item_typing (item.Definition d) = silent (definition d)
 item_typing (item.Statement statement) = statement_typing statement at_top
 
@@ -134,13 +134,16 @@ items_from done (it ∷ rest) = item_typing it >>= (λ t. items_from (added done
 abbrev pub no_names : Names
 no_names = record { scopes = [] ∷ []; consts = [] }
 
-unfoldable pub beginning : State
-beginning = record {
+-- `all` are the gates of the whole program
+unfoldable pub beginning : List GateBody → State
+beginning all = record {
   names = no_names;
   inside = no_names;
   slots = 0;
   qubits = 0;
   subroutines = [];
+  gates = standard_bodies;
+  all_gates = all;
   outputs = [];
   variables = [];
   tokens = 0;
@@ -164,7 +167,7 @@ unsized end s body = record {
   qubits = told s.qubits;
   slots = s.slots;
   size = 0;
-  gates = standard_bodies;
+  gates = s.gates;
   subroutines = s.subroutines;
   body = body;
   outputs = outputs_of s.outputs s.variables;
@@ -184,5 +187,6 @@ numbers_fit s =
 unfoldable pub typing_of : Program → Checked Typed
 typing_of program =
     and_then (versions_fit program.versions) (λ _.
-    and_then (items_from [] program.items beginning) (λ r.
-    and_then (numbers_fit r.1) (λ _. Ok (program_at program.end r.1 r.0))))
+    and_then (items_from [] program.items (beginning [])) (λ first.
+    and_then (items_from [] program.items (beginning first.1.gates)) (λ r.
+    and_then (numbers_fit r.1) (λ _. Ok (program_at program.end r.1 r.0)))))

@@ -16,6 +16,7 @@ use Rattle.qt_tree.specs.declared.expression.Scalar.{Scalar}
 use Rattle.qt_tree.specs.declared.place.Place.{Place}
 use Rattle.qt_tree.specs.declared.refusal.Cause.TheVariants as cause
 use Rattle.qt_tree.specs.declared.refusal.TextRefusal.TheVariants as refusal
+use Rattle.qt_tree.specs.declared.statement.GateCall.{GateCall}
 use Rattle.qt_tree.specs.declared.statement.Operand.{Operand}
 use Rattle.qt_tree.specs.declared.statement.Right.{Right}
 use Rattle.qt_tree.specs.declared.statement.Sequence.{Sequence}
@@ -64,6 +65,7 @@ use Rattle.qt_typing.specs.Qubits.{operand_qubits}
 use Rattle.qt_typing.specs.Targets.{target_at, measured_target}
 use Rattle.qt_typing.specs.Calls.{RightForm, Measured, Calls, Plain, right_form, calling, result_at, call_as, fits_type, optional_right, right_at}
 use Rattle.qt_typing.specs.Declarations.{declaration_of, bit_register, constant_of, alias_of, declare_variable}
+use Rattle.qt_typing.specs.Gates.{gate_call}
 use Rattle.qt_typing.specs.Tokens.{statement_tokens}
 
 -- ---- assignments
@@ -131,6 +133,9 @@ barrier place (qubits ∷ rest) names = and_then (operand_qubits names place qub
 
 unfoldable pub call_statement : Place → Name → List Expr → Typing TypedAction
 call_statement place name given = calling place name given >>= (λ called. pure (action.Call called.call))
+
+unfoldable pub gate_statement : Place → GateCall → Typing TypedAction
+gate_statement place call = λ s. seen (gate_call place s.included s.all_gates call) s
 
 -- ---- jumps
 
@@ -314,7 +319,7 @@ form_typing_at (s.CompoundAssignment target operator value) at around = simple a
 form_typing_at (s.Measure qubits target) at around = simple at (seen (measure at.place qubits target))
 form_typing_at (s.Reset qubits) at around = simple at (seen (reset at.place qubits))
 form_typing_at (s.Barrier qubits) at around = simple at (seen (barrier at.place qubits))
-form_typing_at (s.Gate call) at around = not_yet at.place
+form_typing_at (s.Gate call) at around = simple at (gate_statement at.place call)
 form_typing_at (s.Call name given) at around = simple at (call_statement at.place name given)
 form_typing_at (s.If condition body otherwise) at around = branching at around condition body otherwise
 form_typing_at (s.While condition body) at around = while_loop at around condition body

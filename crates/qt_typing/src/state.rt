@@ -1,6 +1,7 @@
 //! What changes as statements are typed, one after the other, and what stands around them.
 
 use crate::names::Names;
+use qt_gate_calls::body::{GateBodies, GateBody};
 use qt_typed::call::{Span, SubroutineCall};
 use qt_typed::program::{TypedOutput, TypedSubroutine};
 use qt_typed::statement::TypedStatement;
@@ -21,6 +22,10 @@ pub struct State {
     pub qubits: u64,
     /// The subroutines, in the order of text.
     pub subroutines: Items<TypedSubroutine>,
+    /// The standard gates and the gates that are declared so far, by number.
+    pub gates: Items<GateBody>,
+    /// All gates of the program.
+    pub all_gates: GateBodies,
     /// The variables that are declared as outputs.
     pub outputs: Items<TypedOutput>,
     /// The global variables, which are the outputs where none is declared.
