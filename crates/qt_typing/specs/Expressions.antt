@@ -73,9 +73,10 @@ storage_at _ lengths _ = None
 abbrev pub storage_of_kind : What → Named → Option Storage
 storage_of_kind what.Variable it = storage_at it.of it.lengths it.places
 storage_of_kind what.Parameter it = storage_at it.of it.lengths it.places
+storage_of_kind what.Constant it = storage_at it.of it.lengths it.places
 storage_of_kind _ it = None
 
--- where a variable or a parameter that is one is kept
+-- where a variable, a parameter that is one, or an input is kept. A constant has no slot
 unfoldable pub storage_of : Named → Option Storage
 storage_of it = storage_of_kind it.what it
 
@@ -117,9 +118,13 @@ abbrev pub all_indexes : List (List IndexPart) → List IndexPart
 all_indexes [] = []
 all_indexes (indexes ∷ rest) = indexes ++ all_indexes rest
 
+-- an input, or a constant by its value
+abbrev pub unassigned : Names → Mode → Place → Name → List IndexPart → Option Storage → Checked Operand
+unassigned names m place name indexes None = and_then (named_constant names place name) (constant_bits names m place indexes)
+unassigned names m place name indexes (Some v) = variable_operand names m place v indexes
+
 unfoldable pub name_operand : Names → Mode → Place → Name → List IndexPart → What → Named → Checked Operand
-name_operand names m place name indexes what.Constant it =
-    and_then (named_constant names place name) (constant_bits names m place indexes)
+name_operand names m place name indexes what.Constant it = unassigned names m place name indexes (storage_of it)
 name_operand names m place name indexes _ it =
     and_then (or_unfit place name (storage_of it)) (λ v. variable_operand names m place v indexes)
 

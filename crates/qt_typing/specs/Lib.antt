@@ -14,4 +14,5 @@ pub mod Tokens
 pub mod Statements
 pub mod Subroutines
 pub mod GateItems
+pub mod Inputs
 pub mod Programs

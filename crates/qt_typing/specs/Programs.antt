@@ -15,6 +15,7 @@ use Rattle.qt_tree.specs.declared.program.Program.{Program}
 use Rattle.qt_tree.specs.declared.program.Version.{Version}
 use Rattle.qt_tree.specs.declared.program.VersionNumber.{VersionNumber}
 use Rattle.qt_tree.specs.declared.program.VersionNumber.TheVariants as version
+use Rattle.qt_tree.specs.declared.refusal.Setting.{Setting}
 use Rattle.qt_tree.specs.declared.refusal.TextRefusal.TheVariants as refusal
 use Rattle.qt_tree.specs.declared.statement.Statement.{Statement}
 use Rattle.qt_tree.specs.declared.statement.StatementForm.{StatementForm}
@@ -23,6 +24,7 @@ use Rattle.qt_tree.specs.declared.statement.StatementForm.TheOpen.{StatementForm
 use Rattle.qt_tree.specs.declared.statement.StatementForm.TheFolds.{fold-Statement}
 use Rattle.qt_typed.specs.Size.{size_of}
 use Rattle.qt_typed.specs.declared.program.Typed.{Typed}
+use Rattle.qt_typed.specs.declared.program.StartValue.{StartValue}
 use Rattle.qt_typed.specs.declared.program.TypedOutput.{TypedOutput}
 use Rattle.qt_typed.specs.declared.statement.TypedStatement.{TypedStatement}
 use Rattle.qt_typed.specs.declared.statement.TypedStatement.TheVariants as typed
@@ -37,9 +39,10 @@ use Rattle.qt_typing.specs.Declarations.{qubit_declaration, qubit_register, type
 use Rattle.qt_typing.specs.Tokens.{qubit_tokens, io_tokens, array_tokens}
 use Rattle.qt_typing.specs.Statements.{added, not_yet, silent, simple, statement_typing}
 use Rattle.qt_typing.specs.GateItems.{gate_item}
+use Rattle.qt_typing.specs.Inputs.{input_of, inputs_fit}
 use Rattle.qt_typing.specs.Subroutines.{definition}
 
--- ---- of which programs the typing is defined so far: nothing is an input or another text
+-- ---- of which programs the typing is defined so far: no other text is included
 
 abbrev pub all_built : List Bool → Bool
 all_built [] = true
@@ -67,7 +70,6 @@ is_standard name = pointwise nat_eq name (codes "stdgates.inc")
 
 abbrev pub item_built : Item → Bool
 item_built (item.Include place name) = is_standard name
-item_built (item.Input place scalar name) = false
 item_built (item.Definition d) = statements_built d.body
 item_built (item.Statement statement) = statement_built statement
 item_built _ = true
@@ -114,7 +116,7 @@ at_top = record { in_loop = false; returns = returns.Nowhere }
 
 unfoldable pub item_typing : Item → Typing (Option TypedStatement)
 item_typing (item.Include place name) = if is_standard name then silent include_standard else not_yet place
-item_typing (item.Input place scalar name) = not_yet place
+item_typing (item.Input place scalar name) = counted (io_tokens scalar) (input_of place scalar name)
 item_typing (item.Output place scalar name) = counted (io_tokens scalar) (output_of place scalar name)
 item_typing (item.Qubit place size name) = counted (qubit_tokens size) (qubit_declaration place size name)
 item_typing (item.QubitRegister place name size) = counted (qubit_tokens size) (qubit_register place name size)
@@ -144,6 +146,7 @@ beginning all = record {
   subroutines = [];
   gates = standard_bodies;
   all_gates = all;
+  inputs = [];
   outputs = [];
   variables = [];
   tokens = 0;
@@ -162,8 +165,8 @@ abbrev pub outputs_of : List TypedOutput → List TypedOutput → List TypedOutp
 outputs_of [] variables = variables
 outputs_of (output ∷ rest) variables = output ∷ rest
 
-abbrev pub unsized : Place → State → List TypedStatement → Typed
-unsized end s body = record {
+abbrev pub unsized : Place → State → List TypedStatement → List StartValue → Typed
+unsized end s body start = record {
   qubits = told s.qubits;
   slots = s.slots;
   size = 0;
@@ -171,22 +174,23 @@ unsized end s body = record {
   subroutines = s.subroutines;
   body = body;
   outputs = outputs_of s.outputs s.variables;
-  start = [];
+  start = start;
   end = end;
 }
 
 -- the size counts the tokens of declarations that don't run as well
-unfoldable pub program_at : Place → State → List TypedStatement → Typed
-program_at end s body = record (unsized end s body) { size = told (s.tokens + size_of (unsized end s body)) }
+unfoldable pub program_at : Place → State → List TypedStatement → List StartValue → Typed
+program_at end s body start = record (unsized end s body start) { size = told (s.tokens + size_of (unsized end s body start)) }
 
 unfoldable pub numbers_fit : State → Checked (Unit {0})
 numbers_fit s =
     and_then (unless (nat_lt most_qubits s.qubits) (refusal.E15 (told s.qubits))) (λ _. unless (nat_lt most_slots s.slots) (refusal.E16
         s.slots))
 
-unfoldable pub typing_of : Program → Checked Typed
-typing_of program =
+unfoldable pub typing_of : List Setting → Program → Checked Typed
+typing_of settings program =
     and_then (versions_fit program.versions) (λ _.
     and_then (items_from [] program.items (beginning [])) (λ first.
     and_then (items_from [] program.items (beginning first.1.gates)) (λ r.
-    and_then (numbers_fit r.1) (λ _. Ok (program_at program.end r.1 r.0)))))
+    and_then (numbers_fit r.1) (λ _.
+    and_then (inputs_fit settings r.1.inputs) (λ start. Ok (program_at program.end r.1 r.0 start))))))

@@ -8,6 +8,8 @@ use Rattle.qt_const_rules.specs.declared.sorts.Sort.{Sort}
 use Rattle.qt_const_rules.specs.declared.sorts.Sort.TheVariants as sort
 use Rattle.qt_names.specs.Scopes.{found}
 use Rattle.qt_names.specs.declared.named.Named.{Named}
+use Rattle.qt_names.specs.declared.named.Places.{Places}
+use Rattle.qt_names.specs.declared.named.Places.TheVariants as places
 use Rattle.qt_names.specs.declared.named.What.{What}
 use Rattle.qt_names.specs.declared.named.What.TheVariants as what
 use Rattle.qt_tree.specs.declared.expression.Expr.{Expr}
@@ -55,14 +57,24 @@ scalar_sort_at names = fold-Scalar Sort (Unit {0}) Sort (Unit {0}) (expr_sort na
 
 -- ---- constant as a whole: no name in it is that of a variable
 
-abbrev pub is_variable_kind : What → Option ValueType → Bool
-is_variable_kind what.Variable (Some kind) = true
-is_variable_kind what.Parameter (Some kind) = true
-is_variable_kind _ _ = false
+abbrev pub has_type : Option ValueType → Bool
+has_type None = false
+has_type (Some kind) = true
+
+-- a constant with a slot is an input
+abbrev pub has_slot : Places → Bool
+has_slot (places.Number slot) = true
+has_slot _ = false
+
+abbrev pub is_variable_kind : What → Named → Bool
+is_variable_kind what.Variable it = has_type it.of
+is_variable_kind what.Parameter it = has_type it.of
+is_variable_kind what.Constant it = has_slot it.places
+is_variable_kind _ it = false
 
 unfoldable pub is_variable : Option Named → Bool
 is_variable None = false
-is_variable (Some it) = is_variable_kind it.what it.of
+is_variable (Some it) = is_variable_kind it.what it
 
 abbrev pub all_fixed : List Bool → Bool
 all_fixed [] = true

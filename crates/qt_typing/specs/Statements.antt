@@ -191,8 +191,12 @@ abbrev pub constant_values : Place → ConstValue → Checked TypedSequence
 constant_values place (constant.Value x) = scalar_bits place x.kind (typed_expr.Constant x)
 constant_values place (constant.Phase p) = Err (refusal.E10 place)
 
+abbrev pub unassigned_values : Names → Place → Name → Option Storage → Checked TypedSequence
+unassigned_values names place name None = and_then (named_constant names place name) (constant_values place)
+unassigned_values names place name (Some v) = stored_values place v.kind v.slot v.lengths
+
 unfoldable pub named_values : Names → Place → Name → What → Named → Checked TypedSequence
-named_values names place name what.Constant it = and_then (named_constant names place name) (constant_values place)
+named_values names place name what.Constant it = unassigned_values names place name (storage_of it)
 named_values names place name _ it =
     and_then (or_unfit place name (storage_of it)) (λ (v : Storage). stored_values place v.kind v.slot v.lengths)
 

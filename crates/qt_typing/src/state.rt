@@ -26,6 +26,8 @@ pub struct State {
     pub gates: Items<GateBody>,
     /// All gates of the program.
     pub all_gates: GateBodies,
+    /// The inputs, in the order of text.
+    pub inputs: Items<TypedOutput>,
     /// The variables that are declared as outputs.
     pub outputs: Items<TypedOutput>,
     /// The global variables, which are the outputs where none is declared.
