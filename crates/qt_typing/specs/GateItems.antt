@@ -307,6 +307,9 @@ parameters_of gate = or_empty gate.parameters where
 
 -- ---- the whole
 
+abbrev pub body_with : GateItem → List BodyCall → GateBody
+body_with gate calls = record { parameters = length (parameters_of gate); qubits = length gate.qubits; calls = calls }
+
 unfoldable pub gate_inside : GateItem → Typing GateBody
 gate_inside gate = λ s.
     (enter >>= (λ _.
@@ -314,7 +317,7 @@ gate_inside gate = λ s.
     declare_wires gate.place 0 gate.qubits >>= (λ _.
     seen (body_from s.included [] gate.body) >>= (λ calls.
     leave (length s.names.consts) >>= (λ _.
-    pure (record { parameters = length (parameters_of gate); qubits = length gate.qubits; calls = calls }))))))) s
+    pure (body_with gate calls))))))) s
 
 unfoldable pub gate_body_of : GateItem → Typing GateBody
 gate_body_of gate = λ s.

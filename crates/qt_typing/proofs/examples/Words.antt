@@ -47,6 +47,9 @@ use Rattle.qt_typing.specs.Calls
 use Rattle.qt_typing.specs.Declarations
 use Rattle.qt_typing.specs.Statements
 use Rattle.qt_typing.specs.Subroutines
+use Rattle.qt_typing.specs.Gates
+use Rattle.qt_typing.specs.GateItems
+use Rattle.qt_typing.specs.Inputs
 use Rattle.qt_typing.specs.Programs
 use Rattle.qt_typing.specs.Checked.{Checked}
 
@@ -175,14 +178,14 @@ unfolding
     Environment.take_qubits Environment.span_from Environment.named_in Environment.declare Environment.declare_in_both
     Environment.is_global Environment.enter Environment.leave Conversions.is_same Conversions.converts Conversions.is_zero_at
     Conversions.zero_as Conversions.as_type Conversions.phase_as Conversions.phase_at Conversions.wanted Conversions.truth_at
-    Sorts.sort_of_named Sorts.is_variable Indexes.fixed_place Indexes.free_index Indexes.single_index Indexes.places_between
+    Sorts.sort_of_named Sorts.is_variable Indexes.whole_index Indexes.fixed_place Indexes.single_index Indexes.places_between
     Indexes.places_of_range Indexes.optional_number Indexes.range_places Indexes.bits_at Indexes.steps_from Indexes.element_from
     Indexes.reached Operators.unary_row Operators.before_operand Operators.operator_form Operators.zero_beside Operators.phase_beside
     Operators.value_beside Operators.right_beside Operators.two_values Operators.phase_and_whole Operators.whole_and_phase
     Operators.phase_first Operators.phase_second Operators.combined Operators.logical_of Operators.both_true Expressions.of_constant
     Expressions.constant_operand Expressions.storage_of Expressions.bits_of Expressions.variable_operand Expressions.named_constant
     Expressions.name_operand Expressions.arity Expressions.builtin_at Expressions.value_at Qubits.qubits_of Qubits.qubits_named
-    Qubits.is_same_qubit Qubits.overlaps Qubits.repeats Qubits.fixed_in Qubits.fixed_at Qubits.free_at Qubits.qubits_in_range
+    Qubits.is_same_qubit Qubits.overlaps Qubits.repeats Qubits.fixed_in Qubits.indexed_in Qubits.qubit_in Qubits.qubits_in_range
     Qubits.set_from Qubits.qubits_in_set Qubits.qubits_indexed Qubits.qubits_at Qubits.operand_qubits Qubits.known_places
     Qubits.outcomes_fit Targets.target_in Targets.target_of_kind Targets.target_at Targets.is_fixed_variable Targets.measured_target
     Calls.argument_qubits Calls.single_fits Calls.register_fits Calls.argument Calls.arguments_from Calls.arguments
@@ -194,8 +197,10 @@ unfolding
     Declarations.constant_of Declarations.declare_qubits Declarations.optional_size Declarations.qubit_declaration
     Declarations.qubit_register Declarations.parts_from Declarations.alias_qubits Declarations.alias_of Declarations.element_type
     Declarations.lengths_from Declarations.array_values Declarations.optional_values Declarations.array_with Declarations.array_of
-    Statements.assign_value Statements.assign_outcomes Statements.assign_result Statements.assignment Statements.op_of_compound
-    Statements.update Statements.measure Statements.reset Statements.barrier Statements.call_statement Statements.jump
+    Gates.modifier_of Gates.modifiers_from Gates.gate_at Gates.gate_called Gates.count_fits Gates.constant_units Gates.free_phase
+    Gates.argument_phase Gates.phases_from Gates.clashes Gates.operands_from Gates.call_with Gates.gate_call Statements.assign_value
+    Statements.assign_outcomes Statements.assign_result Statements.assignment Statements.op_of_compound Statements.update
+    Statements.measure Statements.reset Statements.barrier Statements.call_statement Statements.gate_statement Statements.jump
     Statements.return Statements.loop_value Statements.bound Statements.optional_value Statements.range_values Statements.members_from
     Statements.named_values Statements.values_of Statements.kept Statements.loop_type Statements.added Statements.each
     Statements.closed Statements.inside Statements.scoped Statements.optional_body Statements.in_loop Statements.condition_at
@@ -203,7 +208,10 @@ unfolding
     Statements.for_body Statements.for_values Statements.for_loop Subroutines.value_parameter Subroutines.qubit_parameter
     Subroutines.parameter_of Subroutines.parameters_from Subroutines.result_type_at Subroutines.around_body Subroutines.turned_inside
     Subroutines.body_of Subroutines.result_and_body Subroutines.typed_inside Subroutines.subroutine_of Subroutines.declare_subroutine
-    Subroutines.definition Programs.items_built Programs.versions_fit Programs.count_tokens Programs.include_standard
-    Programs.keep_output Programs.output_at Programs.output_of Programs.item_typing Programs.items_from Programs.beginning
-    Programs.program_at Programs.numbers_fit Programs.typing_of
+    Subroutines.definition GateItems.body_angle GateItems.angles_from GateItems.body_call_with GateItems.body_call
+    GateItems.body_barrier GateItems.body_from GateItems.declare_angles GateItems.declare_wires GateItems.gate_inside
+    GateItems.gate_body_of GateItems.declare_gate GateItems.gate_item Inputs.keep_input Inputs.input_at Inputs.input_of
+    Inputs.bits_written Inputs.starts_from Inputs.settings_fit Inputs.inputs_fit Programs.items_built Programs.versions_fit
+    Programs.count_tokens Programs.include_standard Programs.keep_output Programs.output_at Programs.output_of Programs.item_typing
+    Programs.items_from Programs.beginning Programs.program_at Programs.numbers_fit Programs.typing_of
 everything = tt
