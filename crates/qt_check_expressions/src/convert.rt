@@ -1,12 +1,11 @@
 //! Where a value of a type is wanted.
 
 ghost use Rattle.std.specs.Prelude.{◌≡◌, IfOk};
-ghost use Rattle.qt_value.specs.Types.{given, has_size};
 ghost use Rattle.qt_value.specs.declared.types.ValueType.TheVariants as kind;
 ghost use Rattle.qt_typed.specs.declared.expression.TypedExpr.TheVariants as typed;
 ghost use Rattle.qt_typing.specs.declared.operand.Operand.TheVariants as operand;
-ghost use Rattle.qt_typing.specs.Checked.{Gives};
-ghost use Rattle.qt_typing.specs.Conversions.{as_type, converts, has_row, is_same, phase_as, rescales, truth_at, value_form, wanted, zero_angle, zero_as, Written, Unwritten};
+ghost use Rattle.qt_typing.specs.Checked.{Gives, and_then};
+ghost use Rattle.qt_typing.specs.Conversions.{as_type, converts, has_row, is_same, phase_as, phase_at, rescales, truth_at, value_form, wanted, zero_as, Written, Unwritten};
 
 use crate::constants::{is_zero_at, phase_at, refusal_at};
 use qt_const::casts::cast_to;
@@ -84,13 +83,14 @@ pub fn converts(from: ValueType, to: ValueType) -> bool
 }
 
 /// A form as a value of another type.
-fn conversion(alloc: Global, to: ValueType, form: TypedExpr) -> Result<TypedExpr, OutOfMemory>
-    ensures { IfOk result (λ converted. converted ≡ typed.Convert to form) }
+fn conversion(
+    alloc: Global,
+    to: ValueType,
+    operand: Boxed<TypedExpr>,
+) -> Result<Boxed<TypedExpr>, OutOfMemory>
+    ensures { IfOk result (λ converted. converted ≡ typed.Convert to operand) }
 {
-    Ok(TypedExpr::Convert {
-        to,
-        operand: Boxed::new(alloc, form)?,
-    })
+    Ok(Boxed::new(alloc, TypedExpr::Convert { to, operand })?)
 }
 
 /// A value of a type as one of another. E10 exactly where no conversion fits.
@@ -100,8 +100,8 @@ pub fn as_type(
     place: Place,
     to: ValueType,
     from: ValueType,
-    form: TypedExpr,
-) -> Result<TypedExpr, TextRefusal>
+    form: Boxed<TypedExpr>,
+) -> Result<Boxed<TypedExpr>, TextRefusal>
     ensures { Gives (as_type place to from form) result }
 {
     if is_same(from, to) {
@@ -113,14 +113,11 @@ pub fn as_type(
     Ok(conversion(alloc, to, form)?)
 }
 
-/// The angle 0 of a width, where there are angles of it.
-pub fn zero_angle(width: u8) -> Option<TypedExpr>
-    ensures { result ≡ given (has_size (kind.Angle width)) (zero_angle width) }
+/// A constant.
+pub fn constant(alloc: Global, value: Value) -> Result<Boxed<TypedExpr>, OutOfMemory>
+    ensures { IfOk result (λ form. form ≡ typed.Constant value) }
 {
-    match Value::new(ValueType::Angle(width), 0) {
-        Some(value) => Some(TypedExpr::Constant { value }),
-        None => None,
-    }
+    Ok(Boxed::new(alloc, TypedExpr::Constant { value })?)
 }
 
 /// The constant whole number 0 as an angle.
@@ -132,12 +129,12 @@ fn zero_as_angle(
     place: Place,
     width: u8,
     written: &Expr,
-) -> Result<TypedExpr, TextRefusal>
+) -> Result<Boxed<TypedExpr>, TextRefusal>
     ensures { Gives (zero_as names.now mode place (kind.Angle width) written.now) result }
 {
     let zero = is_zero_at(alloc, names, mode, place, written)?;
-    match zero_angle(width) {
-        Some(form) if zero => Ok(form),
+    match Value::new(ValueType::Angle(width), 0) {
+        Some(value) if zero => Ok(constant(alloc, value)?),
         _ => Err(TextRefusal::E10(place)),
     }
 }
@@ -151,7 +148,7 @@ fn zero_as(
     place: Place,
     to: ValueType,
     written: &Expr,
-) -> Result<TypedExpr, TextRefusal>
+) -> Result<Boxed<TypedExpr>, TextRefusal>
     ensures { Gives (zero_as names.now mode place to written.now) result }
 {
     match to {
@@ -161,27 +158,51 @@ fn zero_as(
 }
 
 /// A constant that is a value.
-fn value_form(place: Place, constant: ConstValue) -> Result<TypedExpr, TextRefusal>
+fn value_form(
+    alloc: Global,
+    place: Place,
+    constant: ConstValue,
+) -> Result<Boxed<TypedExpr>, TextRefusal>
     ensures { Gives (value_form place constant) result }
 {
     match constant {
-        ConstValue::Value(value) => Ok(TypedExpr::Constant { value }),
+        ConstValue::Value(value) => Ok(self::constant(alloc, value)?),
         ConstValue::Phase(_) => Err(TextRefusal::E10(place)),
     }
 }
 
 /// A phase as a value of a type.
 #[tactic(auto, unfolding(qt_typing::specs::Conversions::phase_as))]
-pub fn phase_as(place: Place, to: ValueType, phase: Phase) -> Result<TypedExpr, TextRefusal>
+pub fn phase_as(
+    alloc: Global,
+    place: Place,
+    to: ValueType,
+    phase: Phase,
+) -> Result<Boxed<TypedExpr>, TextRefusal>
     ensures { Gives (phase_as place to phase) result }
 {
     if !to.has_size() {
         return Err(TextRefusal::E10(place));
     }
     match cast_to(to, ConstValue::Phase(phase)) {
-        Ok(constant) => value_form(place, constant),
+        Ok(constant) => value_form(alloc, place, constant),
         Err(fault) => Err(refusal_at(place, fault)),
     }
+}
+
+/// A phase that has to be constant, as a value of a type.
+fn written_phase_as(
+    alloc: Global,
+    names: &Names,
+    mode: Mode,
+    place: Place,
+    to: ValueType,
+    written: &Expr,
+) -> Result<Boxed<TypedExpr>, TextRefusal>
+    ensures { Gives (and_then (phase_at names.now mode place written.now) (phase_as place to)) result }
+{
+    let phase = phase_at(alloc, names, mode, place, written)?;
+    phase_as(alloc, place, to, phase)
 }
 
 /// A value where one of a type is wanted.
@@ -194,8 +215,8 @@ fn value_wanted(
     to: ValueType,
     written: &Expr,
     from: ValueType,
-    form: TypedExpr,
-) -> Result<TypedExpr, TextRefusal>
+    form: Boxed<TypedExpr>,
+) -> Result<Boxed<TypedExpr>, TextRefusal>
     ensures { Gives (wanted Unwritten names.now mode place to written.now (operand.Value from form)) result }
 {
     if is_same(from, to) {
@@ -217,17 +238,14 @@ pub fn wanted(
     to: ValueType,
     written: &Expr,
     of: Operand,
-) -> Result<TypedExpr, TextRefusal>
+) -> Result<Boxed<TypedExpr>, TextRefusal>
     ensures { Gives (wanted Unwritten names.now mode place to written.now of) result }
 {
     match of {
         Operand::Value { kind, form } => {
             value_wanted(alloc, names, mode, place, to, written, kind, form)
         }
-        Operand::Phase { .. } => {
-            let phase = phase_at(alloc, names, mode, place, written)?;
-            phase_as(place, to, phase)
-        }
+        Operand::Phase { .. } => written_phase_as(alloc, names, mode, place, to, written),
     }
 }
 
@@ -241,8 +259,8 @@ fn value_cast(
     to: ValueType,
     written: &Expr,
     from: ValueType,
-    form: TypedExpr,
-) -> Result<TypedExpr, TextRefusal>
+    form: Boxed<TypedExpr>,
+) -> Result<Boxed<TypedExpr>, TextRefusal>
     ensures { Gives (wanted Written names.now mode place to written.now (operand.Value from form)) result }
 {
     if is_same(from, to) {
@@ -264,23 +282,24 @@ pub fn cast_of(
     to: ValueType,
     written: &Expr,
     of: Operand,
-) -> Result<TypedExpr, TextRefusal>
+) -> Result<Boxed<TypedExpr>, TextRefusal>
     ensures { Gives (wanted Written names.now mode place to written.now of) result }
 {
     match of {
         Operand::Value { kind, form } => {
             value_cast(alloc, names, mode, place, to, written, kind, form)
         }
-        Operand::Phase { .. } => {
-            let phase = phase_at(alloc, names, mode, place, written)?;
-            phase_as(place, to, phase)
-        }
+        Operand::Phase { .. } => written_phase_as(alloc, names, mode, place, to, written),
     }
 }
 
 /// An operand where a truth value is wanted.
 #[tactic(auto, unfolding(qt_typing::specs::Conversions::truth_at))]
-pub fn truth_at(alloc: Global, place: Place, of: Operand) -> Result<TypedExpr, TextRefusal>
+pub fn truth_at(
+    alloc: Global,
+    place: Place,
+    of: Operand,
+) -> Result<Boxed<TypedExpr>, TextRefusal>
     ensures { Gives (truth_at place of) result }
 {
     match of {

@@ -1,21 +1,18 @@
 //! Operators between typed operands.
 
 ghost use Rattle.std.specs.Prelude.{◌≡◌, IfOk};
-ghost use Rattle.qt_const.specs.Operators.{op_of_infix, op_of_prefix};
 ghost use Rattle.qt_value.specs.OpTypes.{result_type, unary_result_type};
 ghost use Rattle.qt_value.specs.declared.types.ValueType.TheVariants as kind;
-ghost use Rattle.qt_typing.specs.declared.operand.Operand.TheVariants as operand;
-ghost use Rattle.qt_typing.specs.Checked.{Gives};
 ghost use Rattle.qt_typed.specs.declared.expression.TypedPhase.TheVariants as phase;
+ghost use Rattle.qt_typing.specs.declared.operand.Operand.TheVariants as operand_form;
+ghost use Rattle.qt_typing.specs.Checked.{Gives};
 ghost use Rattle.qt_typing.specs.Operators as spec;
 
-use crate::constants::{is_zero_at, phase_at, refusal_at};
-use crate::convert::{truth_at, zero_angle};
+use crate::constants::is_zero_at;
+use crate::convert::{constant, truth_at};
 use qt_const::modes::Mode;
-use qt_const_rules::angles::angle_of;
 use qt_outside::faults::OutOfMemory;
-use qt_phase::phase::Phase;
-use qt_tree::expression::{Expr, InfixOperator, PrefixOperator};
+use qt_tree::expression::{Expr, InfixOperator};
 use qt_tree::place::Place;
 use qt_tree::refusal::TextRefusal;
 use qt_typed::expression::{Logical, TypedExpr, TypedPhase};
@@ -23,6 +20,7 @@ use qt_typing::names::Names;
 use qt_typing::operand::{Beside, Operand};
 use qt_value::operators::{Op, UnaryOp, op_type, unary_type};
 use qt_value::types::ValueType;
+use qt_value::value::Value;
 use sqlite_items::Boxed;
 use std::alloc::Global;
 
@@ -33,26 +31,25 @@ pub fn unary_row(
     place: Place,
     operator: UnaryOp,
     of: ValueType,
-    form: TypedExpr,
+    operand: Boxed<TypedExpr>,
 ) -> Result<Operand, TextRefusal>
-    ensures { Gives (spec.unary_row place operator form (unary_result_type operator of)) result }
+    ensures { Gives (spec.unary_row place operator operand (unary_result_type operator of)) result }
 {
-    let kind = unary_type(operator, of).ok_or(TextRefusal::E10(place))?;
-    Ok(Operand::Value {
-        kind,
-        form: TypedExpr::Unary {
-            operator,
-            operand: Boxed::new(alloc, form)?,
-        },
-    })
+    match unary_type(operator, of) {
+        None => Err(TextRefusal::E10(place)),
+        Some(kind) => Ok(Operand::Value {
+            kind,
+            form: Boxed::new(alloc, TypedExpr::Unary { operator, operand })?,
+        }),
+    }
 }
 
-/// The opposite of a phase that isn't reckoned yet.
-fn negative(alloc: Global, form: TypedPhase) -> Result<TypedPhase, OutOfMemory>
-    ensures { IfOk result (λ negative. negative ≡ phase.Neg form) }
+/// The opposite of a phase.
+fn opposite(alloc: Global, operand: Boxed<TypedPhase>) -> Result<Operand, OutOfMemory>
+    ensures { IfOk result (λ result. result ≡ operand_form.Phase (phase.Neg operand)) }
 {
-    Ok(TypedPhase::Neg {
-        operand: Boxed::new(alloc, form)?,
+    Ok(Operand::Phase {
+        form: Boxed::new(alloc, TypedPhase::Neg { operand })?,
     })
 }
 
@@ -69,9 +66,7 @@ pub fn before_operand(
     match of {
         Operand::Value { kind, form } => unary_row(alloc, place, operator, kind, form),
         Operand::Phase { form } => match operator {
-            UnaryOp::Neg => Ok(Operand::Phase {
-                form: negative(alloc, form)?,
-            }),
+            UnaryOp::Neg => Ok(opposite(alloc, form)?),
             _ => Err(TextRefusal::E10(place)),
         },
     }
@@ -85,21 +80,104 @@ fn operator_form(
     operator: Op,
     of: ValueType,
     other: ValueType,
-    left: TypedExpr,
-    right: TypedExpr,
-) -> Result<TypedExpr, OutOfMemory>
+    left: Boxed<TypedExpr>,
+    right: Boxed<TypedExpr>,
+) -> Result<Boxed<TypedExpr>, OutOfMemory>
     ensures { IfOk result (λ form. form ≡ spec.operator_form mode operator of other left right) }
 {
-    let left = Boxed::new(alloc, left)?;
-    let right = Boxed::new(alloc, right)?;
-    match (mode, operator) {
+    let form = match (mode, operator) {
         (Mode::Exact, Op::Div) if of.is_whole() && other.is_whole() => {
-            Ok(TypedExpr::ExactQuotient { left, right })
+            TypedExpr::ExactQuotient { left, right }
         }
-        _ => Ok(TypedExpr::Binary {
+        _ => TypedExpr::Binary {
             operator,
             left,
             right,
+        },
+    };
+    Ok(Boxed::new(alloc, form)?)
+}
+
+/// The angle 0, where angles have that operator.
+#[tactic(auto, unfolding(qt_typing::specs::Operators::zero_beside))]
+fn zero_angle_beside(
+    alloc: Global,
+    names: &Names,
+    mode: Mode,
+    place: Place,
+    operator: Op,
+    width: u8,
+    written: &Expr,
+) -> Result<Beside, TextRefusal>
+    ensures { Gives (spec.zero_beside names.now mode place operator (kind.Angle width) written.now) result }
+{
+    let kind = ValueType::Angle(width);
+    let zero = is_zero_at(alloc, names, mode, place, written)?;
+    match (op_type(operator, kind, kind), Value::new(kind, 0)) {
+        (Some(result), Some(value)) if zero => Ok(Beside {
+            kind,
+            form: constant(alloc, value)?,
+            result,
         }),
+        _ => Err(TextRefusal::E10(place)),
     }
+}
+
+/// 0 beside an angle.
+#[tactic(auto, unfolding(qt_typing::specs::Operators::zero_beside))]
+fn zero_beside(
+    alloc: Global,
+    names: &Names,
+    mode: Mode,
+    place: Place,
+    operator: Op,
+    of: ValueType,
+    written: &Expr,
+) -> Result<Beside, TextRefusal>
+    ensures { Gives (spec.zero_beside names.now mode place operator of written.now) result }
+{
+    match of {
+        ValueType::Angle(width) => {
+            zero_angle_beside(alloc, names, mode, place, operator, width, written)
+        }
+        _ => Err(TextRefusal::E10(place)),
+    }
+}
+
+/// `&&` or `||`.
+#[tactic(auto, unfolding(qt_typing::specs::Operators::logical_of))]
+fn logical_of(operator: InfixOperator) -> Logical
+    ensures { result ≡ spec.logical_of operator }
+{
+    match operator {
+        InfixOperator::LogicalAnd => Logical::And,
+        _ => Logical::Or,
+    }
+}
+
+/// `&&` or `||` between two operands, which have to be truth values.
+#[tactic(auto, unfolding(qt_typing::specs::Operators::both_true))]
+pub fn both_true(
+    alloc: Global,
+    place: Place,
+    operator: InfixOperator,
+    left: Operand,
+    right: Operand,
+) -> Result<Operand, TextRefusal>
+    ensures { Gives (spec.both_true place operator left right) result }
+{
+    let left = truth_at(alloc, place, left)?;
+    let right = truth_at(alloc, place, right)?;
+    let operator = logical_of(operator);
+    Ok(Operand::Value {
+        kind: ValueType::Bool,
+        form: Boxed::new(
+            alloc,
+            TypedExpr::Logical {
+                operator,
+                left,
+                right,
+            },
+        )?,
+    })
 }
