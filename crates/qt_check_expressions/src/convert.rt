@@ -161,12 +161,12 @@ fn zero_as(
 fn value_form(
     alloc: Global,
     place: Place,
-    constant: ConstValue,
+    of: ConstValue,
 ) -> Result<Boxed<TypedExpr>, TextRefusal>
-    ensures { Gives (value_form place constant) result }
+    ensures { Gives (value_form place of) result }
 {
-    match constant {
-        ConstValue::Value(value) => Ok(self::constant(alloc, value)?),
+    match of {
+        ConstValue::Value(value) => Ok(constant(alloc, value)?),
         ConstValue::Phase(_) => Err(TextRefusal::E10(place)),
     }
 }
@@ -185,7 +185,7 @@ pub fn phase_as(
         return Err(TextRefusal::E10(place));
     }
     match cast_to(to, ConstValue::Phase(phase)) {
-        Ok(constant) => value_form(alloc, place, constant),
+        Ok(value) => value_form(alloc, place, value),
         Err(fault) => Err(refusal_at(place, fault)),
     }
 }
