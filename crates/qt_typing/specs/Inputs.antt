@@ -12,7 +12,7 @@ use Rattle.qt_names.specs.declared.named.What.TheVariants as what
 use Rattle.qt_tree.specs.declared.expression.Scalar.{Scalar}
 use Rattle.qt_tree.specs.declared.place.Place.{Place}
 use Rattle.qt_tree.specs.declared.refusal.Cause.TheVariants as cause
-use Rattle.qt_tree.specs.declared.refusal.Setting.{Setting}
+use Rattle.qt_tree.specs.declared.label.Setting.{Setting}
 use Rattle.qt_tree.specs.declared.refusal.TextRefusal.TheVariants as refusal
 use Rattle.qt_typed.specs.declared.program.StartValue.{StartValue}
 use Rattle.qt_typed.specs.declared.program.TypedOutput.{TypedOutput}

@@ -15,7 +15,7 @@ use Rattle.qt_tree.specs.declared.program.Program.{Program}
 use Rattle.qt_tree.specs.declared.program.Version.{Version}
 use Rattle.qt_tree.specs.declared.program.VersionNumber.{VersionNumber}
 use Rattle.qt_tree.specs.declared.program.VersionNumber.TheVariants as version
-use Rattle.qt_tree.specs.declared.refusal.Setting.{Setting}
+use Rattle.qt_tree.specs.declared.label.Setting.{Setting}
 use Rattle.qt_tree.specs.declared.refusal.TextRefusal.TheVariants as refusal
 use Rattle.qt_tree.specs.declared.statement.Statement.{Statement}
 use Rattle.qt_tree.specs.declared.statement.StatementForm.{StatementForm}
