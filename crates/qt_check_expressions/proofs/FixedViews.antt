@@ -80,7 +80,19 @@ range_fixed names range = ap (index_fixed_at names) (sym (x.rolls-Range range)) 
 pub set_fixed : (names : Names) (places : List Expr) → index_fixed_at names (x.Set places) ≡ true
 set_fixed names places = ap (index_fixed_at names) (sym (x.rolls-Set places)) ∙ index_rolls names (o.Set places)
 
-pub ruleset expressions = (whole_fixed, digits_fixed, pi_fixed, tau_fixed, truth_fixed, parenthesized_fixed, name_fixed, call_fixed,
-    cast_fixed, sizeof_fixed, unary_fixed, binary_fixed)
+pub ruleset expressions = (
+  whole_fixed,
+  digits_fixed,
+  pi_fixed,
+  tau_fixed,
+  truth_fixed,
+  parenthesized_fixed,
+  name_fixed,
+  call_fixed,
+  cast_fixed,
+  sizeof_fixed,
+  unary_fixed,
+  binary_fixed,
+)
 
 pub ruleset indexes = (at_fixed, range_fixed, set_fixed)

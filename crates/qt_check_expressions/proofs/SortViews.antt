@@ -65,7 +65,7 @@ pub name_sort : (names : Names) (name : Label) (brackets : List (List Index)) �
 name_sort names name brackets =
     ap (sort_at names) (sym (e.rolls-Name name brackets))
     ∙ (expr_rolls names (o.Name name brackets) ∙ ap (λ n. sort_of_named n (found names.scopes name)) (count_of_map (index_sort names)
-        brackets))
+    brackets))
 
 pub call_sort : (names : Names) (name : Label) (arguments : List Expr) → sort_at names (e.Call name arguments) ≡ sort.Whole
 call_sort names name arguments = ap (sort_at names) (sym (e.rolls-Call name arguments)) ∙ expr_rolls names (o.Call name arguments)
@@ -104,7 +104,19 @@ pub angle_type_sort : (names : Names) (size : Option Expr) → scalar_sort_at na
 angle_type_sort names None = ap (scalar_sort_at names) (sym (c.rolls-Angle None)) ∙ scalar_rolls names (o.Angle None)
 angle_type_sort names (Some n) = ap (scalar_sort_at names) (sym (c.rolls-Angle (Some n))) ∙ scalar_rolls names (o.Angle (Some n))
 
-pub ruleset sorts = (whole_sort, digits_sort, pi_sort, tau_sort, truth_sort, parenthesized_sort, name_sort, call_sort, cast_sort,
-    sizeof_sort, unary_sort, binary_sort)
+pub ruleset sorts = (
+  whole_sort,
+  digits_sort,
+  pi_sort,
+  tau_sort,
+  truth_sort,
+  parenthesized_sort,
+  name_sort,
+  call_sort,
+  cast_sort,
+  sizeof_sort,
+  unary_sort,
+  binary_sort,
+)
 
 pub ruleset scalars = (bool_type_sort, bit_type_sort, int_type_sort, uint_type_sort, angle_type_sort)

@@ -158,11 +158,7 @@ fn zero_as(
 }
 
 /// A constant that is a value.
-fn value_form(
-    alloc: Global,
-    place: Place,
-    of: ConstValue,
-) -> Result<Boxed<TypedExpr>, TextRefusal>
+fn value_form(alloc: Global, place: Place, of: ConstValue) -> Result<Boxed<TypedExpr>, TextRefusal>
     ensures { Gives (value_form place of) result }
 {
     match of {
@@ -295,11 +291,7 @@ pub fn cast_of(
 
 /// An operand where a truth value is wanted.
 #[tactic(auto, unfolding(qt_typing::specs::Conversions::truth_at))]
-pub fn truth_at(
-    alloc: Global,
-    place: Place,
-    of: Operand,
-) -> Result<Boxed<TypedExpr>, TextRefusal>
+pub fn truth_at(alloc: Global, place: Place, of: Operand) -> Result<Boxed<TypedExpr>, TextRefusal>
     ensures { Gives (truth_at place of) result }
 {
     match of {

@@ -10,4 +10,3 @@ pub mod constants;
 pub mod convert;
 pub mod operators;
 pub mod sorts;
-

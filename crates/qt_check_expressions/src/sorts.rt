@@ -8,7 +8,7 @@ ghost use Rattle.qt_typing.specs.declared.names.Names.{Names};
 ghost use Rattle.qt_typing.specs.Sorts as spec;
 
 use qt_const_rules::sorts::{Sort, sort_of_infix, sort_of_prefix};
-use qt_names::named::{Named, What};
+use qt_names::named::{Named, Places, What};
 use qt_tree::expression::{Expr, Index, Scalar};
 use qt_typing::names::Names;
 use qt_value::types::ValueType;
@@ -88,16 +88,35 @@ fn sort_of_cast(to: &Scalar) -> Sort
     }
 }
 
-/// Whether a name stands for a variable, or a parameter that has a value.
+/// Whether what a name stands for has a slot, or another number.
+fn has_slot(places: &Places) -> bool
+    ensures { result ≡ spec.has_slot places.now }
+{
+    match places {
+        Places::Number { .. } => true,
+        Places::Nowhere => false,
+        Places::Qubits { .. } => false,
+    }
+}
+
+/// Whether something of a kind is a variable, a parameter that has a value, or an input.
+fn is_variable_kind(it: &Named) -> bool
+    ensures { result ≡ spec.is_variable_kind it.now.what it.now }
+{
+    match it.what {
+        What::Variable | What::Parameter => it.of.is_some(),
+        What::Constant => has_slot(&it.places),
+        What::Qubits | What::Alias | What::Gate | What::Subroutine => false,
+    }
+}
+
+/// Whether a name stands for a variable, a parameter that has a value, or an input.
 #[tactic(auto, unfolding(qt_typing::specs::Sorts::is_variable))]
 fn is_variable(named: Option<&Named>) -> bool
     ensures { result ≡ spec.is_variable (option_copied named.entry) }
 {
     match named {
-        Some(it) => match it.what {
-            What::Variable | What::Parameter => it.of.is_some(),
-            _ => false,
-        },
+        Some(it) => is_variable_kind(it),
         None => false,
     }
 }
@@ -115,10 +134,12 @@ pub fn is_fixed(names: &Names, expr: &Expr) -> bool
         Expr::Parenthesized { inner } => is_fixed(names, inner.get()),
         Expr::Call { arguments, .. } => all_fixed(names, arguments.as_slice()),
         Expr::Name { name, brackets } => {
-            !is_variable(names.scopes.known(name.text())) && brackets_fixed(names, brackets.as_slice())
+            !is_variable(names.scopes.known(name.text()))
+                && brackets_fixed(names, brackets.as_slice())
         }
         Expr::Unary { operand, .. } => is_fixed(names, operand.get()),
-        Expr::Binary { left, right, .. } => is_fixed(names, left.get()) && is_fixed(names, right.get()),
+        Expr::Binary { left, right, .. } => is_fixed(names, left.get())
+            && is_fixed(names, right.get()),
     }
 }
 

@@ -37,7 +37,7 @@ pub value_expr : (k : List Entry) → (layer : o.Expr-F Expr Index Scalar Range)
     Reading IndexReading TypeReading IndexReading (value.expr_step k) value.index_step value.scalar_step value.range_step) layer)
 value_expr k layer =
     fold-roll-Expr Reading IndexReading TypeReading IndexReading (value.expr_step k) value.index_step value.scalar_step
-        value.range_step layer
+    value.range_step layer
 
 pub value_index : (k : List Entry) → (layer : o.Index-F Expr Index Scalar Range)
     → fold-Index Reading IndexReading TypeReading IndexReading (value.expr_step k) value.index_step value.scalar_step value.range_step
@@ -48,7 +48,7 @@ pub value_index : (k : List Entry) → (layer : o.Index-F Expr Index Scalar Rang
     Reading IndexReading TypeReading IndexReading (value.expr_step k) value.index_step value.scalar_step value.range_step) layer)
 value_index k layer =
     fold-roll-Index Reading IndexReading TypeReading IndexReading (value.expr_step k) value.index_step value.scalar_step
-        value.range_step layer
+    value.range_step layer
 
 pub value_scalar : (k : List Entry) → (layer : o.Scalar-F Expr Index Scalar Range)
     → fold-Scalar Reading IndexReading TypeReading IndexReading (value.expr_step k) value.index_step value.scalar_step value.range_step
@@ -60,19 +60,26 @@ pub value_scalar : (k : List Entry) → (layer : o.Scalar-F Expr Index Scalar Ra
     layer)
 value_scalar k layer =
     fold-roll-Scalar Reading IndexReading TypeReading IndexReading (value.expr_step k) value.index_step value.scalar_step
-        value.range_step layer
+    value.range_step layer
 
 pub value_range : (k : List Entry) (start step end : Option Expr) → fold-Range Reading IndexReading TypeReading IndexReading
-    (value.expr_step k) value.index_step value.scalar_step value.range_step (roll-Range (record { start = start; step = step; end = end
+    (value.expr_step k) value.index_step value.scalar_step value.range_step (roll-Range (record {
+      start = start;
+      step = step;
+      end = end;
     })) ≡ value.range_step (map-Range Expr Index Scalar Range Reading IndexReading TypeReading IndexReading (fold-Expr Reading
     IndexReading TypeReading IndexReading (value.expr_step k) value.index_step value.scalar_step value.range_step) (fold-Index Reading
     IndexReading TypeReading IndexReading (value.expr_step k) value.index_step value.scalar_step value.range_step) (fold-Scalar Reading
     IndexReading TypeReading IndexReading (value.expr_step k) value.index_step value.scalar_step value.range_step) (fold-Range Reading
-    IndexReading TypeReading IndexReading (value.expr_step k) value.index_step value.scalar_step value.range_step) (record { start =
-    start; step = step; end = end }))
+    IndexReading TypeReading IndexReading (value.expr_step k) value.index_step value.scalar_step value.range_step) (record {
+      start =
+          start;
+      step = step;
+      end = end;
+    }))
 value_range k start step end =
     fold-roll-Range Reading IndexReading TypeReading IndexReading (value.expr_step k) value.index_step value.scalar_step
-        value.range_step (record { start = start; step = step; end = end })
+    value.range_step (record { start = start; step = step; end = end })
 
 pub sort_expr : (names : Names) → (layer : o.Expr-F Expr Index Scalar Range)
     → fold-Expr Sort (Unit {0}) Sort (Unit {0}) (expr_sort names) (λ index. tt) scalar_sort (λ range. tt) (roll-Expr layer)
@@ -97,8 +104,12 @@ sort_scalar names layer = fold-roll-Scalar Sort (Unit {0}) Sort (Unit {0}) (expr
 pub sort_range : (names : Names) (start step end : Option Expr) → fold-Range Sort (Unit {0}) Sort (Unit {0}) (expr_sort names) (λ
     index. tt) scalar_sort (λ range. tt) (roll-Range (record { start = start; step = step; end = end })) ≡ tt
 sort_range names start step end =
-    fold-roll-Range Sort (Unit {0}) Sort (Unit {0}) (expr_sort names) (λ index. tt) scalar_sort (λ range. tt) (record { start =
-        start; step = step; end = end })
+    fold-roll-Range Sort (Unit {0}) Sort (Unit {0}) (expr_sort names) (λ index. tt) scalar_sort (λ range. tt) (record {
+      start =
+          start;
+      step = step;
+      end = end;
+    })
 
 pub fixed_expr : (names : Names) → (layer : o.Expr-F Expr Index Scalar Range)
     → fold-Expr Bool Bool (Unit {0}) (Unit {0}) (expr_fixed names) index_fixed (λ scalar. tt) (λ range. tt) (roll-Expr layer)
@@ -124,8 +135,12 @@ fixed_scalar names layer =
 pub fixed_range : (names : Names) (start step end : Option Expr) → fold-Range Bool Bool (Unit {0}) (Unit {0}) (expr_fixed names)
     index_fixed (λ scalar. tt) (λ range. tt) (roll-Range (record { start = start; step = step; end = end })) ≡ tt
 fixed_range names start step end =
-    fold-roll-Range Bool Bool (Unit {0}) (Unit {0}) (expr_fixed names) index_fixed (λ scalar. tt) (λ range. tt) (record { start =
-        start; step = step; end = end })
+    fold-roll-Range Bool Bool (Unit {0}) (Unit {0}) (expr_fixed names) index_fixed (λ scalar. tt) (λ range. tt) (record {
+      start =
+          start;
+      step = step;
+      end = end;
+    })
 
 pub part_expr : (names : Names) (place : Place) → (layer : o.Expr-F Expr Index Scalar Range)
     → fold-Expr Part IndexPart Scalar Range (expr_step names place) index_step scalar_step range_step (roll-Expr layer)
@@ -152,15 +167,23 @@ pub part_scalar : (names : Names) (place : Place) → (layer : o.Scalar-F Expr I
 part_scalar names place layer = fold-roll-Scalar Part IndexPart Scalar Range (expr_step names place) index_step scalar_step range_step layer
 
 pub part_range : (names : Names) (place : Place) (start step end : Option Expr)
-    → fold-Range Part IndexPart Scalar Range (expr_step names place) index_step scalar_step range_step (roll-Range (record { start =
-    start; step = step; end = end })) ≡ range_step (map-Range Expr Index Scalar Range Part IndexPart Scalar Range (fold-Expr Part
+    → fold-Range Part IndexPart Scalar Range (expr_step names place) index_step scalar_step range_step (roll-Range (record {
+      start =
+          start;
+      step = step;
+      end = end;
+    })) ≡ range_step (map-Range Expr Index Scalar Range Part IndexPart Scalar Range (fold-Expr Part
     IndexPart Scalar Range (expr_step names place) index_step scalar_step range_step) (fold-Index Part IndexPart Scalar Range
     (expr_step names place) index_step scalar_step range_step) (fold-Scalar Part IndexPart Scalar Range (expr_step names place)
     index_step scalar_step range_step) (fold-Range Part IndexPart Scalar Range (expr_step names place) index_step scalar_step
     range_step) (record { start = start; step = step; end = end }))
 part_range names place start step end =
-    fold-roll-Range Part IndexPart Scalar Range (expr_step names place) index_step scalar_step range_step (record { start =
-        start; step = step; end = end })
+    fold-roll-Range Part IndexPart Scalar Range (expr_step names place) index_step scalar_step range_step (record {
+      start =
+          start;
+      step = step;
+      end = end;
+    })
 
 pub tokens_expr : (layer : o.Expr-F Expr Index Scalar Range) → fold-Expr ℕ ℕ ℕ ℕ tokens.expr_step tokens.index_step tokens.scalar_step
     tokens.range_step (roll-Expr layer) ≡ tokens.expr_step (map-Expr Expr Index Scalar Range ℕ ℕ ℕ ℕ (fold-Expr ℕ ℕ ℕ ℕ
@@ -190,8 +213,12 @@ pub tokens_range : (start step end : Option Expr) → fold-Range ℕ ℕ ℕ ℕ
     (fold-Scalar ℕ ℕ ℕ ℕ tokens.expr_step tokens.index_step tokens.scalar_step tokens.range_step) (fold-Range ℕ ℕ ℕ ℕ tokens.expr_step
     tokens.index_step tokens.scalar_step tokens.range_step) (record { start = start; step = step; end = end }))
 tokens_range start step end =
-    fold-roll-Range ℕ ℕ ℕ ℕ tokens.expr_step tokens.index_step tokens.scalar_step tokens.range_step (record { start =
-        start; step = step; end = end })
+    fold-roll-Range ℕ ℕ ℕ ℕ tokens.expr_step tokens.index_step tokens.scalar_step tokens.range_step (record {
+      start =
+          start;
+      step = step;
+      end = end;
+    })
 
 -- ---- applied to what they read
 
@@ -232,8 +259,12 @@ pub range_applied : (k : List Entry) (m : Mode) (c : ConstValue) (start step end
     TypeReading IndexReading (value.expr_step k) value.index_step value.scalar_step value.range_step) (fold-Index Reading IndexReading
     TypeReading IndexReading (value.expr_step k) value.index_step value.scalar_step value.range_step) (fold-Scalar Reading IndexReading
     TypeReading IndexReading (value.expr_step k) value.index_step value.scalar_step value.range_step) (fold-Range Reading IndexReading
-    TypeReading IndexReading (value.expr_step k) value.index_step value.scalar_step value.range_step) (record { start = start; step =
-    step; end = end })) m c
+    TypeReading IndexReading (value.expr_step k) value.index_step value.scalar_step value.range_step) (record {
+      start = start;
+      step =
+          step;
+      end = end;
+    })) m c
 range_applied k m c start step end = ap (λ (r : IndexReading). r m c) (value_range k start step end)
 
 pub typed_applied : (names : Names) (place : Place) (m : Mode) (layer : o.Expr-F Expr Index Scalar Range)
@@ -249,13 +280,16 @@ pub form_rolls : (layer : StatementForm-F StatementForm Statement) (place : Plac
     → s.Reading) s.Reading form_typing statement_typing layer) place around state
 form_rolls layer place around state =
     ap (λ (f : Place → s.Reading). f place around state) (fold-roll-StatementForm (Place
-        → s.Reading) s.Reading form_step statement_step layer)
+    → s.Reading) s.Reading form_step statement_step layer)
 
 pub statement_rolls : (place : Place) (form : StatementForm) (around : Around) (state : State)
     → statement_typing (roll-Statement (record { place = place; form = form })) around state ≡ form_typing form place around state
 statement_rolls place form around state =
-    ap (λ (f : s.Reading). f around state) (fold-roll-Statement (Place → s.Reading) s.Reading form_step statement_step (record { place =
-        place; form = form }))
+    ap (λ (f : s.Reading). f around state) (fold-roll-Statement (Place → s.Reading) s.Reading form_step statement_step (record {
+      place =
+          place;
+      form = form;
+    }))
 
 pub expr_layer : (layer : o.Expr-F Expr Index Scalar Range) → out-Expr (roll-Expr layer) ≡ layer
 expr_layer layer = out-roll-Expr layer
@@ -263,7 +297,34 @@ expr_layer layer = out-roll-Expr layer
 pub index_layer : (layer : o.Index-F Expr Index Scalar Range) → out-Index (roll-Index layer) ≡ layer
 index_layer layer = out-roll-Index layer
 
-pub ruleset rolls = (expr_layer, index_layer, value_applied, kind_applied, index_applied, range_applied, typed_applied, value_expr,
-    value_index, value_scalar, value_range, sort_expr, sort_index, sort_scalar, sort_range, fixed_expr, fixed_index, fixed_scalar,
-    fixed_range, part_expr, part_index, part_scalar, part_range, tokens_expr, tokens_index, tokens_scalar, tokens_range, form_rolls,
-    statement_rolls)
+pub ruleset rolls = (
+  expr_layer,
+  index_layer,
+  value_applied,
+  kind_applied,
+  index_applied,
+  range_applied,
+  typed_applied,
+  value_expr,
+  value_index,
+  value_scalar,
+  value_range,
+  sort_expr,
+  sort_index,
+  sort_scalar,
+  sort_range,
+  fixed_expr,
+  fixed_index,
+  fixed_scalar,
+  fixed_range,
+  part_expr,
+  part_index,
+  part_scalar,
+  part_range,
+  tokens_expr,
+  tokens_index,
+  tokens_scalar,
+  tokens_range,
+  form_rolls,
+  statement_rolls,
+)

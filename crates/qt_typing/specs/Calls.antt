@@ -100,7 +100,7 @@ arguments_from names place done _ _ = Ok done
 unfoldable pub arguments : Names → Place → List TypedParameter → List Expr → Checked Given
 arguments names place parameters given =
     and_then (unless (not (nat_eq (length parameters) (length given))) (refusal.E14 place (told (length parameters)) (told (length
-        given)))) (λ _.
+    given)))) (λ _.
     arguments_from names place (record { values = []; qubits = [] }) parameters given)
 
 -- ---- calls
@@ -131,10 +131,13 @@ result_of (Some f) = f.result
 unfoldable pub framed : ℕ → Given → Typing Called
 framed number given = λ s.
     (take_slots (slots_of (slice_get s.subroutines number)) >>= (λ first t.
-    Ok (record {
-      call = record { subroutine = number; frame = span_from first t.slots; values = given.values; qubits = given.qubits };
-      result = result_of (slice_get s.subroutines number);
-    }, t))) s
+    Ok (
+      record {
+        call = record { subroutine = number; frame = span_from first t.slots; values = given.values; qubits = given.qubits };
+        result = result_of (slice_get s.subroutines number);
+      },
+      t,
+    ))) s
 
 unfoldable pub calling : Place → Name → List Expr → Typing Called
 calling place name given = λ s.

@@ -78,7 +78,7 @@ keep_variable output = λ s. Ok (tt, if is_global s then record s { variables = 
 unfoldable pub declare_variable : Place → Name → ValueType → List ℕ → ℕ → Typing (Unit {0})
 declare_variable place name kind lengths slot =
     declare place name (variable_named kind lengths slot) (known_lengths lengths) >>= (λ _. keep_variable (told_at_end name kind
-        lengths slot))
+    lengths slot))
 
 -- ---- `bit[2] c = measure q;`
 
@@ -123,7 +123,7 @@ constant_named kind = record { what = what.Constant; of = Some kind; lengths = [
 unfoldable pub declare_constant : Place → Name → ValueType → ConstValue → Typing (Unit {0})
 declare_constant place name kind c = λ s.
     (if is_global s then declare_in_both place name (constant_named kind) (known.Constant c) else declare place name (constant_named
-        kind) (known.Constant c)) s
+    kind) (known.Constant c)) s
 
 unfoldable pub constant_of : Place → Scalar → Name → Expr → Typing (Unit {0})
 constant_of place scalar name expr =

@@ -139,7 +139,7 @@ angle_form names place e.Tau = Ok (Angular (angle.Units (pos (2 ^ 33))))
 angle_form names place (e.Parenthesized inner) = inner.reckoned
 angle_form names place (e.Name name brackets) =
     and_then (or_unknown name place (found names.scopes name)) (λ it. parameter_angle place name (no_brackets brackets)
-        (parameter_number it.what it))
+    (parameter_number it.what it))
 angle_form names place (e.Call name arguments) =
     and_then (builtin_at place name (found names.scopes name)) (λ _.
     and_then (all_reckoned arguments) (λ _. Err (refusal.E10 place)))
@@ -261,8 +261,14 @@ body_call_with place arguments operands modifiers gate names =
     and_then (angles_from names place [] arguments) (λ angles.
     and_then (count_fits place (controls modifiers + gate.qubits) (length operands)) (λ _.
     and_then (operands_from names place [] operands) (λ all.
-    Ok (record { modifiers =
-        modifiers; gate = gate.called; angles = angles; qubits = body_qubits all; operators = operators_in arguments })))))
+    Ok (record {
+      modifiers =
+          modifiers;
+      gate = gate.called;
+      angles = angles;
+      qubits = body_qubits all;
+      operators = operators_in arguments;
+    })))))
 
 unfoldable pub body_call : Place → Bool → GateCall → Names → Checked BodyCall
 body_call place included call names =

@@ -241,8 +241,13 @@ call_with place gates arguments operands modifiers gate names =
     and_then (phases_from names place [] arguments) (λ phases.
     and_then (count_fits place (controls modifiers + gate.qubits) (length operands)) (λ _.
     and_then (operands_from names place [] operands) (λ all.
-    Ok (gate_action place (record { gates =
-        gates; modifiers = modifiers; gate = gate.called; arguments = phases }) (size_of_all all) all)))))
+    Ok (gate_action place (record {
+      gates =
+          gates;
+      modifiers = modifiers;
+      gate = gate.called;
+      arguments = phases;
+    }) (size_of_all all) all)))))
 
 unfoldable pub gate_call : Place → Bool → List GateBody → GateCall → Names → Checked TypedAction
 gate_call place included gates call names =

@@ -121,8 +121,11 @@ item_typing (item.Output place scalar name) = counted (io_tokens scalar) (output
 item_typing (item.Qubit place size name) = counted (qubit_tokens size) (qubit_declaration place size name)
 item_typing (item.QubitRegister place name size) = counted (qubit_tokens size) (qubit_register place name size)
 item_typing (item.Array a) =
-    simple (record { place =
-        a.place; tokens = array_tokens a.scalar a.dimensions a.value }) (array_of a.place a.scalar a.dimensions a.name a.value)
+    simple (record {
+      place =
+          a.place;
+      tokens = array_tokens a.scalar a.dimensions a.value;
+    }) (array_of a.place a.scalar a.dimensions a.name a.value)
 item_typing (item.Gate gate) = silent (gate_item gate)
 item_typing (item.Definition d) = silent (definition d)
 item_typing (item.Statement statement) = statement_typing statement at_top
@@ -185,7 +188,7 @@ program_at end s body start = record (unsized end s body start) { size = told (s
 unfoldable pub numbers_fit : State → Checked (Unit {0})
 numbers_fit s =
     and_then (unless (nat_lt most_qubits s.qubits) (refusal.E15 (told s.qubits))) (λ _. unless (nat_lt most_slots s.slots) (refusal.E16
-        s.slots))
+    s.slots))
 
 unfoldable pub typing_of : List Setting → Program → Checked Typed
 typing_of settings program =

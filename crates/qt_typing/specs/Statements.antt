@@ -274,7 +274,7 @@ branching at around condition body otherwise = seen (condition_at at.place condi
 unfoldable pub while_body : Spot → Around → List Reading → TypedExpr → Typing (Option TypedStatement)
 while_body at around body test = λ s.
     (scoped (in_loop around) body >>= (λ a. pure (Some (typed.Loop at (loop.While test) (span_from s.slots s.slots) a.statements
-        a.slots)))) s
+    a.slots)))) s
 
 unfoldable pub while_loop : Spot → Around → Expr → List Reading → Typing (Option TypedStatement)
 while_loop at around condition body = seen (condition_at at.place condition) >>= while_body at around body

@@ -13,7 +13,9 @@ pub enum Operand {
         form: Boxed<TypedExpr>,
     },
     /// A phase, which isn't reckoned yet.
-    Phase { form: Boxed<TypedPhase> },
+    Phase {
+        form: Boxed<TypedPhase>,
+    },
 }
 
 /// What stands beside an operand, its type, and the type of the operator's result: a value, a phase as an angle, or 0.
