@@ -1,17 +1,21 @@
 //! Operators between typed operands.
 
-ghost use Rattle.std.specs.Prelude.{◌≡◌, IfOk};
+ghost use Rattle.std.specs.Prelude.{◌≡◌, IsTrue, IfOk};
 ghost use Rattle.qt_value.specs.OpTypes.{result_type, unary_result_type};
+ghost use Rattle.qt_value.specs.Types.{has_size};
 ghost use Rattle.qt_value.specs.declared.types.ValueType.TheVariants as kind;
 ghost use Rattle.qt_typed.specs.declared.expression.TypedPhase.TheVariants as phase;
 ghost use Rattle.qt_typing.specs.declared.operand.Operand.TheVariants as operand_form;
 ghost use Rattle.qt_typing.specs.Checked.{Gives};
+ghost use Rattle.qt_typing.specs.Conversions.{phase_at};
 ghost use Rattle.qt_typing.specs.Operators as spec;
 
-use crate::constants::is_zero_at;
+use crate::constants::{is_zero_at, phase_at, refusal_at};
 use crate::convert::{constant, truth_at};
 use qt_const::modes::Mode;
+use qt_const_rules::angles::angle_of;
 use qt_outside::faults::OutOfMemory;
+use qt_phase::phase::Phase;
 use qt_tree::expression::{Expr, InfixOperator};
 use qt_tree::place::Place;
 use qt_tree::refusal::TextRefusal;
@@ -180,4 +184,74 @@ pub fn both_true(
             },
         )?,
     })
+}
+
+/// A phase beside an angle of a width, where angles have a row with this type.
+fn angle_beside(
+    alloc: Global,
+    place: Place,
+    width: u8,
+    row: ValueType,
+    phase: Phase,
+) -> Result<Beside, TextRefusal>
+    requires { IsTrue (has_size (kind.Angle width)) }
+    ensures { Gives (spec.angle_beside place width row phase) result }
+{
+    match angle_of(width, phase) {
+        Ok(value) => Ok(Beside {
+            kind: ValueType::Angle(width),
+            form: constant(alloc, value)?,
+            result: row,
+        }),
+        Err(fault) => Err(refusal_at(place, fault)),
+    }
+}
+
+/// A phase that has to be constant beside an angle.
+#[tactic(auto, unfolding(qt_typing::specs::Operators::phase_beside))]
+fn phase_beside(
+    alloc: Global,
+    names: &Names,
+    mode: Mode,
+    place: Place,
+    operator: Op,
+    width: u8,
+    written: &Expr,
+) -> Result<Beside, TextRefusal>
+    ensures { Gives (spec.phase_beside place width (spec.angle_row operator width) (phase_at names.now mode place written.now)) result }
+{
+    let kind = ValueType::Angle(width);
+    match op_type(operator, kind, kind) {
+        Some(row) if kind.has_size() => {
+            let phase = phase_at(alloc, names, mode, place, written)?;
+            angle_beside(alloc, place, width, row, phase)
+        }
+        _ => Err(TextRefusal::E10(place)),
+    }
+}
+
+/// A phase, which isn't reckoned yet.
+fn phase_operand(alloc: Global, phase: TypedPhase) -> Result<Operand, OutOfMemory>
+    ensures { IfOk result (λ operand. operand ≡ operand_form.Phase phase) }
+{
+    Ok(Operand::Phase {
+        form: Boxed::new(alloc, phase)?,
+    })
+}
+
+/// The sum or difference of two phases.
+pub fn two_phases(
+    alloc: Global,
+    place: Place,
+    operator: Op,
+    left: Boxed<TypedPhase>,
+    right: Boxed<TypedPhase>,
+) -> Result<Operand, TextRefusal>
+    ensures { Gives (spec.two_phases place operator left right) result }
+{
+    match operator {
+        Op::Add => Ok(phase_operand(alloc, TypedPhase::Add { left, right })?),
+        Op::Sub => Ok(phase_operand(alloc, TypedPhase::Sub { left, right })?),
+        _ => Err(TextRefusal::E10(place)),
+    }
 }
