@@ -255,3 +255,88 @@ pub fn two_phases(
         _ => Err(TextRefusal::E10(place)),
     }
 }
+
+/// Phase 0.
+fn no_phase(alloc: Global) -> Result<Boxed<TypedPhase>, OutOfMemory>
+    ensures { IfOk result (λ form. form ≡ spec.no_phase) }
+{
+    Ok(Boxed::new(
+        alloc,
+        TypedPhase::Fixed {
+            phase: Phase::zero(),
+        },
+    )?)
+}
+
+/// A phase and a whole number behind it. 0 counts as phase 0 in a sum.
+#[tactic(auto, unfolding(qt_typing::specs::Operators::phase_and_whole))]
+fn phase_and_whole(
+    alloc: Global,
+    place: Place,
+    operator: Op,
+    is_nil: bool,
+    phase: Boxed<TypedPhase>,
+    number: TypedExpr,
+) -> Result<Operand, TextRefusal>
+    ensures { Gives (spec.phase_and_whole place operator is_nil phase number) result }
+{
+    match operator {
+        Op::Mul => Ok(phase_operand(alloc, TypedPhase::Times { phase, number })?),
+        Op::Div => Ok(phase_operand(alloc, TypedPhase::Over { phase, number })?),
+        _ if is_nil => two_phases(alloc, place, operator, phase, no_phase(alloc)?),
+        _ => Err(TextRefusal::E10(place)),
+    }
+}
+
+/// A whole number and a phase behind it.
+#[tactic(auto, unfolding(qt_typing::specs::Operators::whole_and_phase))]
+fn whole_and_phase(
+    alloc: Global,
+    place: Place,
+    operator: Op,
+    is_nil: bool,
+    number: TypedExpr,
+    phase: Boxed<TypedPhase>,
+) -> Result<Operand, TextRefusal>
+    ensures { Gives (spec.whole_and_phase place operator is_nil number phase) result }
+{
+    match operator {
+        Op::Mul => Ok(phase_operand(alloc, TypedPhase::Scaled { number, phase })?),
+        _ if is_nil => two_phases(alloc, place, operator, no_phase(alloc)?, phase),
+        _ => Err(TextRefusal::E10(place)),
+    }
+}
+
+/// A value and what stands beside it, behind it.
+fn joined(
+    alloc: Global,
+    mode: Mode,
+    operator: Op,
+    of: ValueType,
+    form: Boxed<TypedExpr>,
+    beside: Beside,
+) -> Result<Operand, OutOfMemory>
+    ensures { IfOk result (λ operand. operand ≡ spec.joined mode operator of form beside) }
+{
+    Ok(Operand::Value {
+        kind: beside.result,
+        form: operator_form(alloc, mode, operator, of, beside.kind, form, beside.form)?,
+    })
+}
+
+/// A value and what stands beside it, before it.
+fn joined_left(
+    alloc: Global,
+    mode: Mode,
+    operator: Op,
+    of: ValueType,
+    form: Boxed<TypedExpr>,
+    beside: Beside,
+) -> Result<Operand, OutOfMemory>
+    ensures { IfOk result (λ operand. operand ≡ spec.joined_left mode operator of form beside) }
+{
+    Ok(Operand::Value {
+        kind: beside.result,
+        form: operator_form(alloc, mode, operator, beside.kind, of, beside.form, form)?,
+    })
+}
