@@ -1,5 +1,5 @@
 -- Printed matrices at given angles, by computing: both sides are lists of numbers.
-use Rattle.std.proofs.Common.{◌≡◌, ℕ, ◌+◌, ◌*◌, [], ◌∷◌, refl}
+use Rattle.std.proofs.Common.{◌*◌, [], ◌∷◌, refl}
 use Rattle.std.specs.Prelude.{codes}
 use denote.Hole.Carrier.{hidden}
 use Rattle.qt_ring.specs.Ring.{plus, times, minus, conj, nil, one, imaginary, the_omega}

@@ -1,6 +1,6 @@
 -- The standard gates have the matrices that are printed (OpenQASM 3.0 live specification, "Standard library"; Cross et al. 2022). The
 -- matrix of a call is that of its body, a product of matrices of U and gphase.
-use Rattle.std.specs.Prelude.{◌≡◌, ℕ, zero, suc, ◌+◌, ◌*◌, ◌^◌, pos, neg_ℤ, if◌then◌else◌, false, true, List, [], ◌∷◌, ◌++◌, map, Some, bytes_eq, codes}
+use Rattle.std.specs.Prelude.{◌≡◌, ℕ, zero, suc, ◌*◌, ◌^◌, pos, neg_ℤ, if◌then◌else◌, false, true, List, [], ◌∷◌, ◌++◌, map, Some, bytes_eq, codes}
 use Rattle.qt_ring.specs.declared.omega.Omega.{Omega}
 use Rattle.qt_ring.specs.Ring.{times, two_to, root}
 use Rattle.qt_ring.specs.Places.{Bits}
