@@ -7,6 +7,7 @@ use Rattle.qt_gate_calls.specs.Standard.{standard_gates}
 use Rattle.qt_gate_calls.specs.declared.angle.Angle.TheBlock.{hidden-the_row-Angle-0}
 use Rattle.qt_gates.specs.Printed.{alone, under_control, rz_square}
 use Rattle.qt_gates.specs.Laws.{eighths, EachEighth, Prints, FixedGatesArePrinted, ControlledGatesArePrinted, PermutationsArePrinted, RotationsArePrinted}
+use Rattle.qt_gates.proofs.Rotations.{rx_rotations, ry_rotations, crx_rotations, cry_rotations}
 
 pub fixed_gates : FixedGatesArePrinted
 unfolding standard_gates plus times minus conj nil one imaginary the_omega hidden hidden-the_row-Angle-0
@@ -29,4 +30,4 @@ unfolding standard_gates plus times minus conj nil one imaginary the_omega hidde
 crz_printed = (refl, refl, refl, refl, refl, refl, refl, refl)
 
 pub rotations : RotationsArePrinted
-rotations = (rz_printed, crz_printed)
+rotations = (rx_rotations, ry_rotations, crx_rotations, cry_rotations, rz_printed, crz_printed)

@@ -14,24 +14,24 @@ use Rattle.qt_gates.specs.Laws.{IsPrinted, doubled, eighths, half_back, sum, les
 
 -- ---- the operators by their numbers
 
-abbrev phase : Omega → Operator
+abbrev pub phase : Omega → Operator
 phase e = record { size = 0; halvings = 0; entries = λ x y. e }
 
-abbrev turn : Omega → Omega → Omega → Operator
+abbrev pub turn : Omega → Omega → Omega → Operator
 turn a b c = record { size = 1; halvings = 1; entries = twice_u a b c }
 
 abbrev p_operator : Omega → Operator
 p_operator e = after 1 (nothing_on 1) (on 1 (0 ∷ []) (controlled (phase e)))
 
 -- a gate on one qubit under control
-abbrev below : Operator → Operator
+abbrev pub below : Operator → Operator
 below g = after 2 (nothing_on 2) (on 2 (0 ∷ 1 ∷ []) (controlled g))
 
 -- a phase and then U, and the other way round
 abbrev phase_and_turn : Omega → Omega → Omega → Omega → Operator
 phase_and_turn g a b c = after 1 (after 1 (nothing_on 1) (on 1 (0 ∷ []) (turn a b c))) (on 1 [] (phase g))
 
-abbrev turn_and_phase : Omega → Omega → Omega → Omega → Operator
+abbrev pub turn_and_phase : Omega → Omega → Omega → Omega → Operator
 turn_and_phase g a b c = after 1 (after 1 (nothing_on 1) (on 1 [] (phase g))) (on 1 (0 ∷ []) (turn a b c))
 
 abbrev cu_operator : Omega → Omega → Omega → Omega → Operator
@@ -66,13 +66,13 @@ in_front g m =
 rx_in_front : (g a b c : Omega) → IsPrinted (turn_and_phase g a b c) (alone (scaled_in_front g (u_square a b c)))
 rx_in_front g a b c = simp (one-times, nil-times, times-nil, plus-nil, nil-plus)
 
-rx_printed : (g a b c : Omega) → IsPrinted (turn_and_phase g a b c) (alone (scaled g (u_square a b c)))
+pub rx_printed : (g a b c : Omega) → IsPrinted (turn_and_phase g a b c) (alone (scaled g (u_square a b c)))
 rx_printed g a b c = rx_in_front g a b c ∙ ap (λ (m : Square). doubled 1 (alone m).rows) (in_front g (u_square a b c))
 
 crx_in_front : (g a b c : Omega) → IsPrinted (below (turn_and_phase g a b c)) (under_control (scaled_in_front g (u_square a b c)))
 crx_in_front g a b c = simp (one-times, nil-times, times-nil, plus-nil, nil-plus)
 
-crx_printed : (g a b c : Omega) → IsPrinted (below (turn_and_phase g a b c)) (under_control (scaled g (u_square a b c)))
+pub crx_printed : (g a b c : Omega) → IsPrinted (below (turn_and_phase g a b c)) (under_control (scaled g (u_square a b c)))
 crx_printed g a b c = crx_in_front g a b c ∙ ap (λ (m : Square). doubled 1 (under_control m).rows) (in_front g (u_square a b c))
 
 -- ---- the rows of the table

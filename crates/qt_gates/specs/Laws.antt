@@ -9,7 +9,7 @@ use Rattle.qt_gate_calls.specs.declared.body.Called.TheVariants as called
 use Rattle.qt_gate_calls.specs.Units.{KnownUnits, of_one, of_two, sum_of, difference_of, negative_of, quotient_of, circle}
 use Rattle.qt_gate_calls.specs.Matrices.{matrices_of, call_matrix}
 use Rattle.qt_gate_calls.specs.Standard.{StandardGate, standard_gates, standard_bodies}
-use Rattle.qt_gates.specs.Printed.{PrintedMatrix, Square, alone, under_control, id_square, p_square, x_square, y_square, h_square, sx_square, rz_square, u_square, scaled, swap_matrix, ccx_matrix, cswap_matrix}
+use Rattle.qt_gates.specs.Printed.{PrintedMatrix, Square, alone, under_control, id_square, p_square, x_square, y_square, h_square, sx_square, rx_square, ry_square, rz_square, u_square, scaled, swap_matrix, ccx_matrix, cswap_matrix}
 
 -- ---- calls of standard gates
 
@@ -91,10 +91,14 @@ PhasesArePrinted =
     × Prints (codes "cp") (lambda ∷ []) (under_control (p_square (circle lambda)))
     × Prints (codes "cphase") (lambda ∷ []) (under_control (p_square (circle lambda)))
 
--- rz at 2·kπ/4, for each k: its phase is a multiple of π/4 only at such angles
+-- rotations at 2·kπ/4, for each k: their phase is a multiple of π/4 only at such angles
 abbrev pub RotationsArePrinted : Type 0
 RotationsArePrinted =
-    EachEighth (λ k. Prints (codes "rz") (eighths (2 * k) ∷ []) (alone (rz_square k)))
+    EachEighth (λ k. Prints (codes "rx") (eighths (2 * k) ∷ []) (alone (rx_square k)))
+    × EachEighth (λ k. Prints (codes "ry") (eighths (2 * k) ∷ []) (alone (ry_square k)))
+    × EachEighth (λ k. Prints (codes "crx") (eighths (2 * k) ∷ []) (under_control (rx_square k)))
+    × EachEighth (λ k. Prints (codes "cry") (eighths (2 * k) ∷ []) (under_control (ry_square k)))
+    × EachEighth (λ k. Prints (codes "rz") (eighths (2 * k) ∷ []) (alone (rz_square k)))
     × EachEighth (λ k. Prints (codes "crz") (eighths (2 * k) ∷ []) (under_control (rz_square k)))
 
 -- ---- U times a number: at every angle, as above

@@ -17,6 +17,14 @@ turned k = root k
 abbrev pub turned_back : ℕ → Omega
 turned_back k = conj (root k)
 
+-- 2·cos(kπ/4) = e^{ikπ/4} + e^{−ikπ/4}
+abbrev pub twice_cos : ℕ → Omega
+twice_cos k = plus (turned k) (turned_back k)
+
+-- 2·sin(kπ/4) = −i·(e^{ikπ/4} − e^{−ikπ/4})
+abbrev pub twice_sin : ℕ → Omega
+twice_sin k = times (minus imaginary) (plus (turned k) (minus (turned_back k)))
+
 -- ---- matrices of two rows
 
 -- [[a, b], [c, d]] / 2^halvings
@@ -75,6 +83,15 @@ h_square = square 1 root_two root_two root_two (minus root_two)
 -- [[1 + i, 1 − i], [1 − i, 1 + i]] / 2
 abbrev pub sx_square : Square
 sx_square = square 1 (plus one imaginary) (plus one (minus imaginary)) (plus one (minus imaginary)) (plus one imaginary)
+
+-- [[cos(θ/2), −i·sin(θ/2)], [−i·sin(θ/2), cos(θ/2)]], for θ/2 = kπ/4
+abbrev pub rx_square : ℕ → Square
+rx_square k =
+    square 1 (twice_cos k) (times (minus imaginary) (twice_sin k)) (times (minus imaginary) (twice_sin k)) (twice_cos k)
+
+-- [[cos(θ/2), −sin(θ/2)], [sin(θ/2), cos(θ/2)]], for θ/2 = kπ/4
+abbrev pub ry_square : ℕ → Square
+ry_square k = square 1 (twice_cos k) (minus (twice_sin k)) (twice_sin k) (twice_cos k)
 
 -- [[e^{−iλ/2}, 0], [0, e^{iλ/2}]], for λ/2 = kπ/4
 abbrev pub rz_square : ℕ → Square
