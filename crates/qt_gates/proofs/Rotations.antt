@@ -77,9 +77,16 @@ rx_is k =
 
 -- ---- the numbers at each angle
 
+-- e^{−iθ/2} and e^{iθ}, for θ = 2·kπ/4
+abbrev back : ℕ → Omega
+back k = circle (half_back (eighths (2 * k)))
+
+abbrev whole : ℕ → Omega
+whole k = circle (eighths (2 * k))
+
 abbrev NumbersAt : ℕ → Type 0
 NumbersAt k =
-    (circle (half_back (eighths (2 * k))) ≡ conj (root k)) × (circle (eighths (2 * k)) ≡ times (root k) (root k)) × (times (root k) (conj (root k)) ≡ one)
+    (back k ≡ conj (root k)) × (whole k ≡ times (root k) (root k)) × (times (root k) (conj (root k)) ≡ one)
 
 numbers : EachEighth NumbersAt
 unfolding times conj one the_omega
@@ -113,14 +120,14 @@ scaled_same g a b c k l m n e f h i =
     ∙ ap (λ t. scaled k (u_square l m t)) i
 
 ry_square_is : (k : ℕ) → NumbersAt k
-    → scaled (circle (half_back (eighths (2 * k)))) (u_square (circle (eighths (2 * k))) (circle (eighths 0)) (circle (eighths 0))) ≡ ry_square k
-ry_square_is k (back, whole, unit) =
-    scaled_same _ _ _ _ _ _ _ _ back whole refl refl ∙ turned_is (root k) (conj (root k)) one one unit (one-times one) ∙ ry_is k
+    → scaled (back k) (u_square (whole k) (circle (eighths 0)) (circle (eighths 0))) ≡ ry_square k
+ry_square_is k (is_back, is_whole, unit) =
+    scaled_same _ _ _ _ _ _ _ _ is_back is_whole refl refl ∙ turned_is (root k) (conj (root k)) one one unit (one-times one) ∙ ry_is k
 
 rx_square_is : (k : ℕ) → NumbersAt k
-    → scaled (circle (half_back (eighths (2 * k)))) (u_square (circle (eighths (2 * k))) (circle quarter_back) (circle (eighths 2))) ≡ rx_square k
-rx_square_is k (back, whole, unit) =
-    scaled_same _ _ _ _ _ _ _ _ back whole quarter_back_is quarter_is
+    → scaled (back k) (u_square (whole k) (circle quarter_back) (circle (eighths 2))) ≡ rx_square k
+rx_square_is k (is_back, is_whole, unit) =
+    scaled_same _ _ _ _ _ _ _ _ is_back is_whole quarter_back_is quarter_is
     ∙ turned_is (root k) (conj (root k)) (minus imaginary) imaginary unit around ∙ rx_is k
 
 -- ---- the rows of the table
@@ -128,25 +135,25 @@ rx_square_is k (back, whole, unit) =
 rx_at : (k : ℕ) → NumbersAt k → Prints (codes "rx") (eighths (2 * k) ∷ []) (alone (rx_square k))
 unfolding standard_gates hidden hidden-the_row-Angle-0
 rx_at k n =
-    rx_printed (circle (half_back (eighths (2 * k)))) (circle (eighths (2 * k))) (circle quarter_back) (circle (eighths 2))
+    rx_printed (back k) (whole k) (circle quarter_back) (circle (eighths 2))
     ∙ ap (λ (m : Square). doubled 1 (alone m).rows) (rx_square_is k n)
 
 ry_at : (k : ℕ) → NumbersAt k → Prints (codes "ry") (eighths (2 * k) ∷ []) (alone (ry_square k))
 unfolding standard_gates hidden hidden-the_row-Angle-0
 ry_at k n =
-    rx_printed (circle (half_back (eighths (2 * k)))) (circle (eighths (2 * k))) (circle (eighths 0)) (circle (eighths 0))
+    rx_printed (back k) (whole k) (circle (eighths 0)) (circle (eighths 0))
     ∙ ap (λ (m : Square). doubled 1 (alone m).rows) (ry_square_is k n)
 
 crx_at : (k : ℕ) → NumbersAt k → Prints (codes "crx") (eighths (2 * k) ∷ []) (under_control (rx_square k))
 unfolding standard_gates hidden hidden-the_row-Angle-0
 crx_at k n =
-    crx_printed (circle (half_back (eighths (2 * k)))) (circle (eighths (2 * k))) (circle quarter_back) (circle (eighths 2))
+    crx_printed (back k) (whole k) (circle quarter_back) (circle (eighths 2))
     ∙ ap (λ (m : Square). doubled 1 (under_control m).rows) (rx_square_is k n)
 
 cry_at : (k : ℕ) → NumbersAt k → Prints (codes "cry") (eighths (2 * k) ∷ []) (under_control (ry_square k))
 unfolding standard_gates hidden hidden-the_row-Angle-0
 cry_at k n =
-    crx_printed (circle (half_back (eighths (2 * k)))) (circle (eighths (2 * k))) (circle (eighths 0)) (circle (eighths 0))
+    crx_printed (back k) (whole k) (circle (eighths 0)) (circle (eighths 0))
     ∙ ap (λ (m : Square). doubled 1 (under_control m).rows) (ry_square_is k n)
 
 each : (P Q : ℕ → Type 0) → ((k : ℕ) → P k → Q k) → EachEighth P → EachEighth Q
