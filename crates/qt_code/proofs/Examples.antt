@@ -1,15 +1,18 @@
 -- Small codes, computed: that they are valid, and what follows from their beginnings.
-use Rattle.std.proofs.Common.{◌≡◌, refl, ℕ, ◌+◌, true, false, List, [], ◌∷◌}
+use Rattle.std.proofs.Common.{◌≡◌, refl, ℕ, ◌+◌, pos, true, false, List, [], ◌∷◌}
 use Rattle.qt_tree.specs.declared.place.Place.{Place}
 use Rattle.qt_ring.specs.Ring.{plus, times, minus, nil, one, imaginary, the_omega}
-use Rattle.qt_ring.specs.State.{zero_state, applied, project, vanishes}
+use Rattle.qt_ring.specs.State.{zero_state, applied, project, flip, vanishes}
 use Rattle.qt_value.specs.declared.operators.Op.TheVariants as op
 use Rattle.qt_value.specs.declared.types.ValueType.TheVariants as kind
 use Rattle.qt_meaning.specs.Points.{Signal, Faulted, Dry, Leaf}
-use Rattle.qt_meaning.specs.Values.{Divide, Index, with_bit, operated, number_of, place_in, is_true}
+use Rattle.qt_meaning.specs.Values.{Divide, Index, SameQubit, with_bit, operated, number_of, place_in, is_true}
 use Rattle.qt_code.specs.declared.reference.QubitRef.TheVariants as qubit
 use Rattle.qt_code.specs.declared.reference.AngleRef.TheVariants as angle
 use Rattle.qt_code.specs.declared.primitive.Primitive.TheVariants as primitive
+use Rattle.qt_code.specs.declared.angle.AngleArg.TheVariants as argument
+use Rattle.qt_code.specs.declared.angle.AngleStep.TheVariants as step
+use Rattle.qt_code.specs.declared.angle.AngleOperation.TheVariants as phase
 use Rattle.qt_code.specs.declared.instruction.Operand.{Operand}
 use Rattle.qt_code.specs.declared.instruction.Operation.TheVariants as operation
 use Rattle.qt_code.specs.declared.instruction.Store.TheVariants as store
@@ -114,6 +117,38 @@ far = code 0 (instr.Load 0 1 ∷ instr.GetAt 1 0 1 (whole 0) ∷ instr.End ∷ [
 index_faults : signals (leaves_from_start far 0) ≡ Faulted Index (line 2) ∷ []
 unfolding zero_state place_in number_of
 index_faults = refl
+
+-- ---- a qubit by an index of the run, and an angle that is reckoned there: q[1] is turned by π about x
+
+abbrev half : ℕ
+half = 2147483648
+
+abbrev turned : Parts
+turned =
+    code 2 (instr.Tick
+    ∷ instr.Load 0 1
+    ∷ instr.Qubit 0 (0 ∷ 1 ∷ []) (whole 0)
+    ∷ instr.Distinct (qubit.Work 0 ∷ [])
+    ∷ instr.AngleOp 1 (phase.Step (step.Add (argument.Units (pos half)) (argument.Units (pos half))))
+    ∷ instr.Gate (primitive.Turn [] [] (qubit.Work 0) (angle.Work 1 false) (angle.Eighth 0) (angle.Work 1 true))
+    ∷ instr.Measure (qubit.At 1) (store.Bit 0 0)
+    ∷ instr.Reset (qubit.At 0)
+    ∷ instr.End ∷ [])
+
+turned_is_valid : is_valid turned ≡ true
+turned_is_valid = refl
+
+surely_one : stores (leaves_from_start turned 1) ≡ (1 ∷ []) ∷ []
+unfolding zero_state applied project flip vanishes with_bit number_of place_in plus times minus nil one imaginary the_omega
+surely_one = refl
+
+-- the same qubit twice, once by its number and once by a cell
+abbrev twice : Parts
+twice = code 2 (instr.Load 0 1 ∷ instr.Distinct (qubit.Work 0 ∷ qubit.At 1 ∷ []) ∷ instr.End ∷ [])
+
+same_qubit_faults : signals (leaves_from_start twice 0) ≡ Faulted SameQubit (line 2) ∷ []
+unfolding zero_state
+same_qubit_faults = refl
 
 -- ---- code that isn't valid: a jump back to no Tick
 
