@@ -4,7 +4,7 @@ would be slow, some definitions of whole numbers, of the ring of amplitudes and 
 from antt import LIBRARY, NONE, REPLACED, UNIT, Function, Integer, Made, Record, call, some
 
 
-def library(name, arity, body):
+def add(name, arity, body):
     LIBRARY[name] = Function(arity, body)
 
 
@@ -65,7 +65,7 @@ LISTS = {
 LIBRARY.update(VALUES)
 for table in (WHOLE_NUMBERS, INTEGERS, OTHERS, LISTS):
     for word_name, (word_arity, word_body) in table.items():
-        library(word_name, word_arity, word_body)
+        add(word_name, word_arity, word_body)
 
 
 # ---- folds of the syntax tree: a value of a type that holds itself is its own layer
@@ -125,13 +125,13 @@ def statement_fold(of_statement):
 
 
 for type_name in ("Expr", "Index", "Scalar", "Range"):
-    library(f"fold-{type_name}", 9, expression_fold(type_name[0]))
-    library(f"map-{type_name}", 13, expression_map)
+    add(f"fold-{type_name}", 9, expression_fold(type_name[0]))
+    add(f"map-{type_name}", 13, expression_map)
 for type_name in ("Expr", "Index", "Scalar", "Range", "Statement", "StatementForm"):
-    library(f"roll-{type_name}", 1, lambda x: x)
-    library(f"out-{type_name}", 1, lambda x: x)
-library("fold-Statement", 5, statement_fold(True))
-library("fold-StatementForm", 5, statement_fold(False))
+    add(f"roll-{type_name}", 1, lambda x: x)
+    add(f"out-{type_name}", 1, lambda x: x)
+add("fold-Statement", 5, statement_fold(True))
+add("fold-StatementForm", 5, statement_fold(False))
 
 
 # ---- words that would be slow
