@@ -1,15 +1,14 @@
 //! Lists of amplitudes in rows, with the conditions that the calls ask of them.
 
-ghost use Rattle.std.specs.Prelude.{◌≡◌, ◌^◌, ◌≤◌, IfSome, unsigned_abs, length};
+ghost use Rattle.std.specs.Prelude.{◌≡◌, ◌^◌, ◌≤◌, unsigned_abs, length};
 ghost use Rattle.qt_ring.specs.declared.TheConstants.{QUBITS, LARGEST};
 ghost use Rattle.qt_vector.specs.States.{IsSmall, AreSmall};
 
-use crate::text::i64_in;
-use qt_outside::faults::OutOfMemory;
 use qt_ring::omega::Omega;
 use qt_ring::{LARGEST, QUBITS};
+use qt_rows::answer::Answer;
+use qt_rows::row::Row;
 use std::alloc::Global;
-use std::str::SplitWhitespace;
 
 /// Amplitudes with no coefficient above `LARGEST` in size.
 #[derive(Drop)]
@@ -28,44 +27,44 @@ pub struct Amplitudes {
     ghost small: { AreSmall entries.items },
 }
 
-/// A coefficient of a size that the calls take.
-fn coefficient_in(words: &mut SplitWhitespace) -> Option<i64>
-    ensures { IfSome result (λ c. unsigned_abs c ≤ unsigned_abs LARGEST) }
+/// A coefficient of a size that the calls take, or 0 where the row is refused.
+fn coefficient_in(row: &mut Row<'_>) -> i64
+    ensures { unsigned_abs result ≤ unsigned_abs LARGEST }
 {
-    let number = i64_in(words)?;
-    if number.unsigned_abs() > LARGEST as u64 {
-        return None;
+    let number = row.i64();
+    if number.unsigned_abs() <= LARGEST as u64 {
+        return number;
     }
-    Some(number)
+    row.refuse();
+    0
 }
 
-fn amplitude_in(words: &mut SplitWhitespace) -> Option<Omega>
-    ensures { IfSome result IsSmall }
+fn amplitude_in(row: &mut Row<'_>) -> Omega
+    ensures { IsSmall result }
 {
-    let (c0, c1) = (coefficient_in(words)?, coefficient_in(words)?);
-    let (c2, c3) = (coefficient_in(words)?, coefficient_in(words)?);
-    Some(Omega { c0, c1, c2, c3 })
+    let (c0, c1) = (coefficient_in(row), coefficient_in(row));
+    let (c2, c3) = (coefficient_in(row), coefficient_in(row));
+    Omega { c0, c1, c2, c3 }
 }
 
 impl SmallList {
-    /// The amplitudes of a row, if none is too large.
-    pub fn read(alloc: Global, written: &str) -> Result<Option<SmallList>, OutOfMemory> {
+    /// The amplitudes that a text writes. Where one is none or too large the row is refused.
+    pub fn read(alloc: Global, written: &str, row: &mut Row<'_>, answer: &mut Answer) -> SmallList {
         let mut list = SmallList {
             entries: Vec::new(alloc),
         };
         for piece in written.split(',') {
-            match amplitude_in(&mut piece.split_whitespace()) {
-                Some(amplitude) => list.push(amplitude)?,
-                None => return Ok(None),
-            }
+            let mut coefficients = Row::new(piece);
+            list.push(amplitude_in(&mut coefficients), answer);
+            row.refused |= coefficients.refused;
         }
-        Ok(Some(list))
+        list
     }
 
-    fn push(&mut self, amplitude: Omega) -> Result<(), OutOfMemory>
+    fn push(&mut self, amplitude: Omega, answer: &mut Answer)
         requires { IsSmall amplitude }
     {
-        Ok(self.entries.push(amplitude)?)
+        answer.require(self.entries.push(amplitude));
     }
 
     /// The same as the amplitudes of so many qubits, if they are as many as these have.
@@ -79,28 +78,28 @@ impl SmallList {
 }
 
 impl Amplitudes {
-    /// `QUBITS LIST`, if these are the amplitudes of so many qubits and none is too large.
-    pub fn read(alloc: Global, written: &str) -> Result<Option<Amplitudes>, OutOfMemory> {
-        let Some((size, list)) = written.trim().split_once(' ') else {
-            return Ok(None);
-        };
-        let Ok(qubits) = size.parse::<u32>() else {
-            return Ok(None);
-        };
-        match SmallList::read(alloc, list)? {
-            Some(list) => Ok(list.on(qubits)),
-            None => Ok(None),
-        }
+    /// `QUBITS LIST`. Where these aren't the amplitudes of so many qubits, or one is too large, the row is refused.
+    pub fn read(
+        alloc: Global,
+        written: &str,
+        row: &mut Row<'_>,
+        answer: &mut Answer,
+    ) -> Option<Amplitudes> {
+        let mut sized = Row::new(written);
+        let qubits = sized.u32();
+        row.refused |= sized.refused;
+        let amplitudes = SmallList::read(alloc, sized.rest, row, answer).on(qubits);
+        row.refused |= amplitudes.is_none();
+        amplitudes
     }
 }
 
 /// Writes amplitudes as a row has them.
-pub fn write_amplitudes(amplitudes: &[Omega], answer: &mut String) -> Result<(), OutOfMemory> {
+pub fn write_amplitudes(amplitudes: &[Omega], answer: &mut Answer) {
     let mut comma = "";
     for amplitude in amplitudes {
         let Omega { c0, c1, c2, c3 } = *amplitude;
-        write!(answer, "{comma}{c0} {c1} {c2} {c3}")?;
+        write!(answer, "{comma}{c0} {c1} {c2} {c3}");
         comma = ", ";
     }
-    Ok(())
 }

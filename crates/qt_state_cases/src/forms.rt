@@ -5,11 +5,11 @@ ghost use Rattle.std.specs.List.{list_all};
 ghost use Rattle.qt_ring.specs.Ring.{is_nil};
 
 use crate::amplitudes::{SmallList, write_amplitudes};
-use crate::text::refuse;
 use qt_canon::canon::canon;
-use qt_outside::faults::OutOfMemory;
 use qt_ring::omega::Omega;
 use qt_root2::scale::Scale;
+use qt_rows::answer::Answer;
+use qt_rows::row::Row;
 use std::alloc::Global;
 
 /// Whether all amplitudes are 0: such a list has no canonical form.
@@ -19,23 +19,24 @@ fn are_all_zero(amplitudes: &[Omega]) -> bool
     amplitudes.iter().all(|amplitude| amplitude.is_zero())
 }
 
+fn write_scale(scale: Scale, answer: &mut Answer) {
+    let Scale {
+        twos,
+        units,
+        primes,
+    } = scale;
+    write!(answer, "twos {twos}, units {units}, primes {primes}: ");
+}
+
 /// `canon LIST`.
-pub fn answer_canon(alloc: Global, list: &str, answer: &mut String) -> Result<(), OutOfMemory> {
-    let Some(SmallList { mut entries }) = SmallList::read(alloc, list)? else {
-        return refuse(answer);
-    };
+pub fn answer_canon(alloc: Global, row: &mut Row<'_>, answer: &mut Answer) {
+    let SmallList { mut entries } = SmallList::read(alloc, row.rest, row, answer);
     if are_all_zero(entries.as_slice()) {
-        return refuse(answer);
+        return row.refuse();
     }
     match canon(entries.as_mut_slice()) {
-        Ok(
-            Scale {
-                twos,
-                units,
-                primes,
-            },
-        ) => write!(answer, "twos {twos}, units {units}, primes {primes}: ")?,
-        Err(_) => answer.push_str("fault, ")?,
+        Ok(scale) => write_scale(scale, answer),
+        Err(_) => answer.push_str("fault, "),
     }
-    write_amplitudes(entries.as_slice(), answer)
+    write_amplitudes(entries.as_slice(), answer);
 }

@@ -21,35 +21,38 @@ mod measures;
 mod states;
 mod text;
 
-use qt_outside::faults::OutOfMemory;
+use qt_rows::answer::Answer;
+use qt_rows::cases::{Cases, answer_lines};
+use qt_rows::row::Row;
 use std::alloc::Global;
-use std::io::{self, BufWriter, Write};
+use std::io;
 use std::process::ExitCode;
 
-/// The answer to a row, written behind what stands in `answer`.
-fn answer_row(alloc: Global, row: &str, answer: &mut String) -> Result<(), OutOfMemory> {
-    match row.split_once(' ') {
-        Some(("state", rest)) => states::answer_state(alloc, rest, answer),
-        Some(("split", rest)) => measures::answer_split(alloc, rest, answer),
-        Some(("norm", list)) => measures::answer_norm(alloc, list, answer),
-        Some(("canon", list)) => forms::answer_canon(alloc, list, answer),
-        Some(("branch", written)) => branches::answer_branch(alloc, written, answer),
-        Some(("same", pair)) => branches::answer_same(alloc, pair, answer),
-        _ => Ok(answer.push_str("no row")?),
+/// What answers the rows.
+#[derive(Drop)]
+struct StateCases;
+
+impl Cases for StateCases {
+    fn answer(&mut self, alloc: Global, row: &mut Row<'_>, answer: &mut Answer) {
+        let Some((call, rest)) = row.rest.split_once(' ') else {
+            return row.refuse();
+        };
+        let mut given = Row::new(rest);
+        match call {
+            "state" => states::answer_state(alloc, &mut given, answer),
+            "split" => measures::answer_split(alloc, &mut given, answer),
+            "norm" => measures::answer_norm(alloc, &mut given, answer),
+            "canon" => forms::answer_canon(alloc, &mut given, answer),
+            "branch" => branches::answer_branch(alloc, &mut given, answer),
+            "same" => branches::answer_same(alloc, &mut given, answer),
+            _ => row.refuse(),
+        }
+        if given.refused {
+            answer.replace("refused");
+        }
     }
 }
 
 fn main(rt: HostRuntime) -> io::Result<ExitCode> {
-    let alloc = rt.alloc();
-    let rows = io::read_to_string(alloc, rt.reader())?;
-    let mut out = BufWriter::new(alloc, io::writer(&rt))?;
-    for row in rows.lines() {
-        let mut answer = String::new(alloc);
-        if answer_row(alloc, row, &mut answer).is_err() {
-            return Ok(ExitCode::FAILURE);
-        }
-        writeln!(out, "{answer}")?;
-    }
-    out.flush()?;
-    Ok(ExitCode::SUCCESS)
+    answer_lines(rt.alloc(), &mut StateCases, rt.reader(), io::writer(&rt))
 }

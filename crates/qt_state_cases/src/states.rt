@@ -1,23 +1,15 @@
 //! Rows of states, and of the steps that are done to them.
 
-use crate::amplitudes::{Amplitudes, write_amplitudes};
-use crate::text::{refuse, u8_in, u32_in};
+use crate::amplitudes::write_amplitudes;
+use crate::measures::state_of;
 use qt_kernel::kernel::turn;
 use qt_kernel::primitive::FixedPrim;
 use qt_measure::{Halves, flip, split};
-use qt_outside::faults::OutOfMemory;
 use qt_ring::QUBITS;
+use qt_rows::answer::Answer;
+use qt_rows::row::Row;
 use qt_vector::vector::Vector;
 use std::alloc::Global;
-use std::str::SplitWhitespace;
-
-/// What is done to a state.
-#[derive(Clone, Copy)]
-enum Step {
-    Apply(FixedPrim),
-    Keep { qubit: u32, outcome: bool },
-    Flip { qubit: u32 },
-}
 
 /// How a step ends.
 #[derive(Clone, Copy, PartialEq, Eq)]
@@ -25,50 +17,31 @@ enum End {
     Done,
     Fault,
     Nothing,
-    Refused,
 }
 
-fn turn_in(words: &mut SplitWhitespace) -> Option<FixedPrim> {
-    Some(FixedPrim::Turn {
-        ones: u32_in(words)?,
-        zeros: u32_in(words)?,
-        target: u8_in(words)?,
-        theta: u8_in(words)?,
-        phi: u8_in(words)?,
-        lambda: u8_in(words)?,
-    })
-}
-
-fn phase_in(words: &mut SplitWhitespace) -> Option<FixedPrim> {
-    Some(FixedPrim::Phase {
-        ones: u32_in(words)?,
-        zeros: u32_in(words)?,
-        angle: u8_in(words)?,
-    })
-}
-
-fn step_in(words: &mut SplitWhitespace) -> Option<Step> {
-    match words.next()? {
-        "turn" => Some(Step::Apply(turn_in(words)?)),
-        "phase" => Some(Step::Apply(phase_in(words)?)),
-        "zero" => Some(Step::Keep {
-            qubit: u32_in(words)?,
-            outcome: false,
-        }),
-        "one" => Some(Step::Keep {
-            qubit: u32_in(words)?,
-            outcome: true,
-        }),
-        "flip" => Some(Step::Flip {
-            qubit: u32_in(words)?,
-        }),
-        _ => None,
+fn turn_in(row: &mut Row<'_>) -> FixedPrim {
+    FixedPrim::Turn {
+        ones: row.u32(),
+        zeros: row.u32(),
+        target: row.u8(),
+        theta: row.u8(),
+        phi: row.u8(),
+        lambda: row.u8(),
     }
 }
 
-fn apply(state: &mut Vector, prim: FixedPrim) -> End {
+fn phase_in(row: &mut Row<'_>) -> FixedPrim {
+    FixedPrim::Phase {
+        ones: row.u32(),
+        zeros: row.u32(),
+        angle: row.u8(),
+    }
+}
+
+fn apply(state: &mut Vector, prim: FixedPrim, row: &mut Row<'_>) -> End {
     if !prim.is_on(state.qubits()) {
-        return End::Refused;
+        row.refuse();
+        return End::Done;
     }
     match turn(state, &prim) {
         Ok(()) => End::Done,
@@ -76,99 +49,129 @@ fn apply(state: &mut Vector, prim: FixedPrim) -> End {
     }
 }
 
-/// Replaces the state by what the outcome leaves of it.
-fn keep(alloc: Global, state: &mut Vector, qubit: u32, outcome: bool) -> Result<End, OutOfMemory> {
-    if qubit >= state.qubits() {
-        return Ok(End::Refused);
+/// Puts what an outcome leaves in place of the state, if it leaves anything.
+fn put(half: Option<Vector>, state: &mut Vector) -> End {
+    match half {
+        Some(half) => {
+            *state = half;
+            End::Done
+        }
+        None => End::Nothing,
     }
-    let Halves { zero, one } = split(alloc, state, qubit)?;
-    match if outcome { one } else { zero } {
-        Some(half) => *state = half,
-        None => return Ok(End::Nothing),
-    }
-    Ok(End::Done)
 }
 
-fn turn_over(state: &mut Vector, qubit: u32) -> End {
+/// Replaces the state by what the outcome leaves of it.
+fn keep(
+    alloc: Global,
+    state: &mut Vector,
+    outcome: bool,
+    row: &mut Row<'_>,
+    answer: &mut Answer,
+) -> End {
+    let qubit = row.u32();
     if qubit >= state.qubits() {
-        return End::Refused;
+        row.refuse();
+        return End::Done;
     }
-    flip(state, qubit);
+    match answer.given(split(alloc, state, qubit)) {
+        Some(Halves { zero, one }) => put(if outcome { one } else { zero }, state),
+        None => End::Done,
+    }
+}
+
+fn turn_over(state: &mut Vector, row: &mut Row<'_>) -> End {
+    let qubit = row.u32();
+    if qubit < state.qubits() {
+        flip(state, qubit);
+    } else {
+        row.refuse();
+    }
     End::Done
 }
 
-fn take_step(alloc: Global, state: &mut Vector, step: Step) -> Result<End, OutOfMemory> {
-    match step {
-        Step::Apply(prim) => Ok(apply(state, prim)),
-        Step::Keep { qubit, outcome } => keep(alloc, state, qubit, outcome),
-        Step::Flip { qubit } => Ok(turn_over(state, qubit)),
+/// Takes the step that a row writes.
+fn take_step(alloc: Global, state: &mut Vector, row: &mut Row<'_>, answer: &mut Answer) -> End {
+    match row.word() {
+        "turn" => apply(state, turn_in(row), row),
+        "phase" => apply(state, phase_in(row), row),
+        "zero" => keep(alloc, state, false, row, answer),
+        "one" => keep(alloc, state, true, row, answer),
+        "flip" => turn_over(state, row),
+        _ => {
+            row.refuse();
+            End::Done
+        }
     }
 }
 
-fn take_steps(alloc: Global, state: &mut Vector, steps: &str) -> Result<End, OutOfMemory> {
+/// Takes steps up to the first that can't be done.
+fn take_steps(
+    alloc: Global,
+    state: &mut Vector,
+    steps: &str,
+    row: &mut Row<'_>,
+    answer: &mut Answer,
+) -> End {
     for written in steps.split(';') {
-        let Some(step) = step_in(&mut written.split_whitespace()) else {
-            return Ok(End::Refused);
-        };
-        let end = take_step(alloc, state, step)?;
+        let mut step = Row::new(written);
+        let end = take_step(alloc, state, &mut step, answer);
+        row.refused |= step.refused;
         if end != End::Done {
-            return Ok(end);
+            return end;
         }
     }
-    Ok(End::Done)
+    End::Done
 }
 
 /// The state that `QUBITS zeros` or `QUBITS LIST` writes.
-fn state_in(alloc: Global, written: &str) -> Result<Option<Vector>, OutOfMemory> {
-    if let Some(size) = written.strip_suffix(" zeros") {
-        return zeros(alloc, size);
-    }
-    match Amplitudes::read(alloc, written)? {
-        Some(Amplitudes { qubits, entries }) => Ok(Some(Vector::from_entries(
-            alloc,
-            qubits,
-            entries.as_slice(),
-        )?)),
-        None => Ok(None),
+fn state_in(
+    alloc: Global,
+    written: &str,
+    row: &mut Row<'_>,
+    answer: &mut Answer,
+) -> Option<Vector> {
+    match written.strip_suffix(" zeros") {
+        Some(size) => zeros(alloc, size, row, answer),
+        None => state_of(alloc, written, row, answer),
     }
 }
 
-fn zeros(alloc: Global, size: &str) -> Result<Option<Vector>, OutOfMemory> {
+fn zeros(alloc: Global, size: &str, row: &mut Row<'_>, answer: &mut Answer) -> Option<Vector> {
     match size.parse::<u32>() {
-        Ok(qubits) if qubits <= QUBITS => Ok(Some(Vector::zero_state(alloc, qubits)?)),
-        _ => Ok(None),
+        Ok(qubits) if qubits <= QUBITS => answer.given(Vector::zero_state(alloc, qubits)),
+        _ => {
+            row.refuse();
+            None
+        }
     }
 }
 
 /// Writes a state as its halvings and its amplitudes.
-pub fn write_state(state: &Vector, answer: &mut String) -> Result<(), OutOfMemory> {
+pub fn write_state(state: &Vector, answer: &mut Answer) {
     let k = state.k();
-    write!(answer, "k {k}: ")?;
-    write_amplitudes(state.entries(), answer)
+    write!(answer, "k {k}: ");
+    write_amplitudes(state.entries(), answer);
 }
 
-fn write_end(end: End, state: &Vector, answer: &mut String) -> Result<(), OutOfMemory> {
+fn write_end(end: End, answer: &mut Answer) {
     match end {
         End::Done => (),
-        End::Fault => answer.push_str("fault, ")?,
-        End::Nothing => answer.push_str("nothing, ")?,
-        End::Refused => return refuse(answer),
+        End::Fault => answer.push_str("fault, "),
+        End::Nothing => answer.push_str("nothing, "),
     }
-    write_state(state, answer)
 }
 
 /// `state QUBITS LIST; STEP; STEP; ..`.
-pub fn answer_state(alloc: Global, row: &str, answer: &mut String) -> Result<(), OutOfMemory> {
-    let (written, steps) = match row.split_once(';') {
+pub fn answer_state(alloc: Global, row: &mut Row<'_>, answer: &mut Answer) {
+    let (written, steps) = match row.rest.split_once(';') {
         Some((written, steps)) => (written, Some(steps)),
-        None => (row, None),
+        None => (row.rest, None),
     };
-    let Some(mut state) = state_in(alloc, written)? else {
-        return refuse(answer);
+    let Some(mut state) = state_in(alloc, written, row, answer) else {
+        return;
     };
-    let end = match steps {
-        Some(steps) => take_steps(alloc, &mut state, steps)?,
-        None => End::Done,
-    };
-    write_end(end, &state, answer)
+    if let Some(steps) = steps {
+        write_end(take_steps(alloc, &mut state, steps, row, answer), answer);
+    }
+    write_state(&state, answer);
 }

@@ -1,21 +1,14 @@
 //! Numbers in rows.
 
-use qt_outside::faults::OutOfMemory;
-use std::str::SplitWhitespace;
+use qt_rows::row::Row;
 
-pub fn u8_in(words: &mut SplitWhitespace) -> Option<u8> {
-    words.next()?.parse::<u8>().ok()
-}
-
-pub fn u32_in(words: &mut SplitWhitespace) -> Option<u32> {
-    words.next()?.parse::<u32>().ok()
-}
-
-pub fn i64_in(words: &mut SplitWhitespace) -> Option<i64> {
-    words.next()?.parse::<i64>().ok()
-}
-
-/// The answer to a row that breaks a condition of its call.
-pub fn refuse(answer: &mut String) -> Result<(), OutOfMemory> {
-    Ok(answer.push_str("refused")?)
+/// The number that a text is, or 0 where it is none and the row is refused.
+pub fn number_in(written: &str, row: &mut Row<'_>) -> u32 {
+    match written.trim().parse::<u32>() {
+        Ok(number) => number,
+        Err(_) => {
+            row.refuse();
+            0
+        }
+    }
 }
