@@ -11,5 +11,5 @@ all_nil-list_all (e ∷ es) = ap (λ b. is_nil e && b) (all_nil-list_all es)
 
 pub canon-requires-clause-some : goal.canon-requires-clause-some
 canon-requires-clause-some c =
-    ap all_nil c.as_mut_slice.ensures.value ∙ all_nil-list_all _
+    ap all_nil c.as_mut_slice.ensures.value ∙ all_nil-list_all c.read-entries.result.entries.items
     ∙ ap (list_all is_nil) (sym c.as_slice.ensures.value) ∙ sym c.are_all_zero.ensures ∙ c.if-are_all_zero.false
