@@ -1,9 +1,10 @@
 #!/usr/bin/env python3
 """Computes the definitions of typing and meaning on programs and compares the answers with wanted ones.
 
-    python3 definitions/check_definitions.py [CASES.json] [--only NAME] [--seconds N] [--plain]
+    python3 definitions/check_definitions.py [CASES.json | PAGE.md] [--only NAME] [--seconds N] [--plain]
 
-CASES.json is a list of cases, by default cases.json beside this file. A case has a `name`, a `mode`, a `text`, and what is `wanted`; it may
+CASES.json is a list of cases, by default cases.json beside this file. PAGE.md has its cases in its tables: rows of two cells, a text in
+backquotes and its answer in backquotes, a line each. A case has a `name`, a `mode`, a `text`, and what is `wanted`; it may
 have `settings` (a list of NAME=VALUE) and `fuel` (100000). In the mode `check` the answer is `ok qubits Q slots S size Z` or the line of a
 refusal; in the mode `run` it is the report without its line of states, or the line of a fault or a refusal. Places stand as p:line:column.
 A case takes at most N seconds (60). With --plain the definitions of matrices and of the ring are computed as well, which is slow.
@@ -13,6 +14,7 @@ A block is printed for each difference; the last line is `N agree, M differ, K l
 import argparse
 import json
 import os
+import re
 import sys
 import threading
 import time
@@ -132,6 +134,24 @@ def report(typed, leaves):
 
 # ---- cases
 
+def row_case(line):
+    """The case that a row of a page's table is, if it is one: a refusal and `ok` are told by the check, all else by a run."""
+    row = re.fullmatch(r"\| `([^`]+)` \|((?: `[^`]+`)+) \|", line)
+    if row is None or not re.match(r" `(ok |[EV][0-9]+ |.*=.* \(.*r\)/2)", row[2]):
+        return None
+    lines = [line.replace("p.qasm:", "p:") for line in re.findall(r"`([^`]+)`", row[2])]
+    if lines[0].startswith(("ok ", "E", "V")):
+        return {"name": row[1], "mode": "run" if lines[0][0] == "V" else "check", "text": row[1], "wanted": lines[0]}
+    return {"name": row[1], "mode": "run", "text": row[1], "wanted": "\n".join(lines + ["total (1+0r)/2^0", ""])}
+
+
+def cases_of(path):
+    with open(path, encoding="utf-8") as file:
+        if path.endswith(".md"):
+            return [case for case in map(row_case, file.read().splitlines()) if case]
+        return json.load(file)
+
+
 def answer(case):
     result = typing(case)
     if result.name == "Err":
@@ -170,8 +190,7 @@ def main():
     options.add_argument("--plain", action="store_true")
     given = options.parse_args()
     library.replace_slow_words(not given.plain)
-    with open(given.cases, encoding="utf-8") as file:
-        cases = [case for case in json.load(file) if given.only in case["name"]]
+    cases = [case for case in cases_of(given.cases) if given.only in case["name"]]
     status = []
     # definitions go deep: a thread may have a greater stack
     sys.setrecursionlimit(200000)
