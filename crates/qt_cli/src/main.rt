@@ -1,20 +1,15 @@
 //! The program `qtree`: the top call over the files of the working folder and the standard streams.
 //!
-//! The two adapters are the edge towards the system. They tell no content, so nothing is proved of what a file or a stream
-//! really holds; each counts its faults, and a fault is answered only where its count rose.
+//! The two adapters stand in `qt_adapters`. They tell no content, so nothing is proved of what a file or a stream really holds;
+//! each counts its faults, and a fault is answered only where its count rose.
 #![tactic(auto)]
 
-mod file_shelf;
-#[cfg(test)]
-mod tests;
-mod writer_sink;
-
-use file_shelf::FileShelf;
+use qt_adapters::file_shelf::FileShelf;
+use qt_adapters::writer_sink::WriterSink;
 use qt_host::host::host;
-use qt_host::tell::tell_want;
+use qt_lines::tell::tell_want;
 use std::io;
 use std::process::ExitCode;
-use writer_sink::WriterSink;
 
 /// The words behind the program's name.
 fn words(rt: &HostRuntime) -> io::Result<Vec<String>> {

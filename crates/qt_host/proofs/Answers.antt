@@ -9,11 +9,14 @@ use Rattle.qt_tree.specs.declared.refusal.TextRefusal.TheVariants as e
 use Rattle.qt_read.specs.Reading.{IsTextOfProgram, IsRefused, most_bytes, long, no_utf8, no_token, stopped}
 use Rattle.std.specs.Prelude.{Result, Ok, Err, MatchResult}
 use Rattle.qt_read.specs.Lines.{refusal_words}
-use Rattle.qt_host.specs.Lines.{IsLine, TellsRefusal, form_line, shelf_line, fault_line, named}
-use Rattle.qt_host.specs.Said.{Said, Asks, IsMode, answered, refused, refused_text, other_form, report_of, canonical_of}
-use Rattle.qt_host.specs.Steps.{mode_word, IsAnswer, HasNoAnswer, HasNoAnswerAt, HasShelfCause, IsTold}
-use Rattle.qt_host.specs.declared.request.Mode.{Mode}
-use Rattle.qt_host.specs.declared.request.Mode.TheVariants.{Run, Format}
+use Rattle.qt_words.specs.Words.{Asks, IsMode, named}
+use Rattle.qt_words.specs.Requests.{mode_word}
+use Rattle.qt_words.specs.declared.request.Mode.{Mode}
+use Rattle.qt_words.specs.declared.request.Mode.TheVariants.{Run, Format}
+use Rattle.qt_lines.specs.Lines.{IsLine, form_line, shelf_line}
+use Rattle.qt_host.specs.Lines.{TellsRefusal, fault_line}
+use Rattle.qt_host.specs.Said.{Said, answered, refused, refused_text, other_form, report_of, canonical_of}
+use Rattle.qt_host.specs.Steps.{IsAnswer, HasNoAnswer, HasNoAnswerAt, HasShelfCause, IsTold}
 use Rattle.qt_host.specs.declared.refusal.HostRefusal.{HostRefusal}
 use Rattle.qt_host.specs.declared.refusal.HostRefusal.TheVariants.{Shelf, Text, Early, OutOfMemory}
 

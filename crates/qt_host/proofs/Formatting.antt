@@ -7,7 +7,8 @@ use Rattle.qt_print.specs.Text.{canonical}
 use Rattle.qt_read.specs.Reading.{IsTextOfProgram, most_bytes, SpellsOnly}
 use Rattle.qt_round_trip.specs.Laws.{ReadsAs}
 use Rattle.qt_round_trip.proofs.Again.{round_trip, keeps_the_program as keeps}
-use Rattle.qt_host.specs.Said.{Answer, Said, Asks, other_words, refused_text, other_form, report_of, canonical_of, answered}
+use Rattle.qt_words.specs.Words.{Asks}
+use Rattle.qt_host.specs.Said.{Answer, Said, other_words, refused_text, other_form, report_of, canonical_of, answered}
 use Rattle.qt_host.specs.Formatting.{FormatsAgain, KeepsTheProgram}
 
 is_text_of : (text : List ℕ) (file : ℕ) (p : Program) (is : IsTextOfProgram file text p) → ReadsAs text file is.tokens p

@@ -15,8 +15,9 @@ use Rattle.qt_report.specs.Report.{report_text}
 use Rattle.qt_run.specs.Tree.{leaves_of}
 use Rattle.qt_run.specs.Distribution.{IsDistribution, layout_of}
 use Rattle.qt_run.proofs.Chances.{one_distribution}
-use Rattle.qt_host.specs.Lines.{form_line}
-use Rattle.qt_host.specs.Said.{Answer, Asks, IsMode, AreServed, Said, other_words, refused_text, other_form, report_of, canonical_of, answered, refused}
+use Rattle.qt_words.specs.Words.{Asks, IsMode, AreServed}
+use Rattle.qt_lines.specs.Lines.{form_line}
+use Rattle.qt_host.specs.Said.{Answer, Said, other_words, refused_text, other_form, report_of, canonical_of, answered, refused}
 
 -- the words name one text
 one_name : {words : List (List ℕ)} {mode other name text : List ℕ} → Asks words mode name → Asks words other text → name ≡ text

@@ -11,8 +11,10 @@ use Rattle.qt_first.specs.Form.{IsFirstFormText}
 use Rattle.qt_report.specs.Report.{report_text}
 use Rattle.qt_run.specs.Tree.{leaves_of}
 use Rattle.qt_run.specs.Distribution.{layout_of}
-use Rattle.qt_host.specs.Lines.{unserved_line, form_line}
-use Rattle.qt_host.specs.Said.{Answer, Asks, IsMode, AreServed, Said, other_words, refused_text, other_form, report_of, canonical_of, answered, refused}
+use Rattle.qt_words.specs.Words.{Asks, IsMode, AreServed}
+use Rattle.qt_words.specs.Lines.{unserved_line}
+use Rattle.qt_lines.specs.Lines.{form_line}
+use Rattle.qt_host.specs.Said.{Answer, Said, other_words, refused_text, other_form, report_of, canonical_of, answered, refused}
 use Rattle.qt_host.proofs.Deciding.{IsDecided, same_list}
 use Rattle.qt_host.proofs.FirstForm.{first_form}
 use Rattle.qt_host.proofs.Distributions.{some_distribution}

@@ -1,7 +1,7 @@
 -- What is said of the words of the command line and of the texts that the shelf holds: one answer, made of the status, the
 -- bytes for the standard output and the bytes for the standard error. For `run` and a text of the first form the bytes are the
 -- report of exactly the distribution of its program; for `format` they are the canonical text of the program.
-use Rattle.std.specs.Prelude.{◌≡◌, ◌⊎◌, ℕ, List, [], ◌∷◌, codes}
+use Rattle.std.specs.Prelude.{◌≡◌, ℕ, List, [], ◌∷◌, codes}
 use Rattle.qt_outside.specs.Causes.{Texts, text_of}
 use Rattle.qt_tree.specs.declared.program.Program.{Program as Source}
 use Rattle.qt_tree.specs.declared.refusal.TextRefusal.{TextRefusal}
@@ -14,23 +14,14 @@ use Rattle.qt_report.specs.declared.distribution.Chance.{Chance}
 use Rattle.qt_report.specs.Report.{report_text}
 use Rattle.qt_run.specs.Tree.{leaves_of}
 use Rattle.qt_run.specs.Distribution.{IsDistribution, layout_of}
-use Rattle.qt_host.specs.Lines.{unserved_line, form_line}
+use Rattle.qt_words.specs.Words.{Asks, IsMode, AreServed}
+use Rattle.qt_words.specs.Lines.{unserved_line}
+use Rattle.qt_lines.specs.Lines.{form_line}
 
 pub record Answer : Type 0 where
   pub status : ℕ
   pub output : List ℕ
   pub error : List ℕ
-
--- the words are a mode and the name of a text
-abbrev pub Asks : List (List ℕ) → List ℕ → List ℕ → Type 0
-Asks words mode name = words ≡ mode ∷ name ∷ []
-
-abbrev pub IsMode : List ℕ → Type 0
-IsMode mode = (mode ≡ codes "run") ⊎ (mode ≡ codes "format")
-
--- the words ask for something that is served
-abbrev pub AreServed : List (List ℕ) → Type 0
-AreServed words = (mode : List ℕ) × (name : List ℕ) × Asks words mode name × IsMode mode
 
 abbrev pub answered : List ℕ → Answer
 answered bytes = record { status = 0; output = bytes; error = [] }

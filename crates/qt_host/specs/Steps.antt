@@ -1,5 +1,5 @@
 -- What the steps of the top call find: the text that was fetched, and the answer that it comes to.
-use Rattle.std.specs.Prelude.{◌≡◌, ℕ, ◌⊎◌, List, [], ◌∷◌, codes}
+use Rattle.std.specs.Prelude.{◌≡◌, ℕ, ◌⊎◌, List, [], ◌∷◌}
 use Rattle.qt_outside.specs.Causes.{Rose}
 use Rattle.qt_tree.specs.declared.program.Program.{Program as Source}
 use Rattle.qt_read.specs.Lines.{refusal_line}
@@ -11,19 +11,11 @@ use Rattle.qt_report.specs.declared.distribution.Chance.{Chance}
 use Rattle.qt_report.specs.Report.{report_text}
 use Rattle.qt_run.specs.Tree.{leaves_of}
 use Rattle.qt_run.specs.Distribution.{IsDistribution, layout_of}
-use Rattle.qt_host.specs.Lines.{form_line, shelf_line, memory_line}
-use Rattle.qt_host.specs.declared.request.Mode.{Mode}
-use Rattle.qt_host.specs.declared.request.Mode.TheVariants.{Run, Format}
+use Rattle.qt_words.specs.declared.request.Mode.{Mode}
+use Rattle.qt_words.specs.declared.request.Mode.TheVariants.{Run, Format}
+use Rattle.qt_lines.specs.Lines.{form_line, shelf_line, memory_line}
 use Rattle.qt_host.specs.declared.refusal.HostRefusal.{HostRefusal}
 use Rattle.qt_host.specs.declared.refusal.HostRefusal.TheVariants.{Shelf, Text, Early, OutOfMemory}
-
-abbrev pub mode_word : Mode → List ℕ
-mode_word Run = codes "run"
-mode_word Format = codes "format"
-
--- the word is that of no mode
-abbrev pub IsNoMode : List ℕ → Type 0
-IsNoMode word = (mode : Mode) → ¬ (word ≡ mode_word mode)
 
 -- the report of the program whose text it is
 abbrev pub IsReportOf : List ℕ → List ℕ → Type 0

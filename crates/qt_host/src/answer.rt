@@ -4,12 +4,11 @@ ghost use Rattle.std.specs.Prelude.{◌≡◌, take, string_bytes, Some, IfOk, M
 ghost use Rattle.qt_outside.specs.Causes.{Texts, text_of};
 ghost use Rattle.qt_read.specs.Reading.{IsTextOfProgram};
 ghost use Rattle.qt_host.specs.Steps.{IsAnswer, HasNoSource, HasNoAnswer, HasNoAnswerAt, HasNoText, HasShelfCause};
-ghost use Rattle.qt_host.specs.declared.request.Mode.TheVariants as modes;
+ghost use Rattle.qt_words.specs.declared.request.Mode.TheVariants as modes;
 
 use crate::refusal::HostRefusal;
-use crate::request::Mode;
 use qt_first::read::read as read_first;
-use qt_outside::faults::{FetchFault, OutOfMemory};
+use qt_outside::faults::FetchFault;
 use qt_outside::shelf::Shelf;
 use qt_print::print;
 use qt_read::read::read;
@@ -18,30 +17,11 @@ use qt_run::run;
 use qt_tree::label::Label;
 use qt_tree::program::Program;
 use qt_tree::refusal::TextRefusal;
-use std::alloc::{AllocError, Global};
+use qt_words::request::Mode;
+use std::alloc::Global;
 
 /// One more byte than the longest text that is read, so that a longer one is seen to be too long.
 const MOST: usize = 1048577;
-
-impl From<OutOfMemory> for HostRefusal {
-    ghost use Rattle.qt_host.specs.declared.refusal.HostRefusal.TheVariants.{OutOfMemory};
-
-    ghost from_gives = { λ _ e. e ≡ OutOfMemory };
-
-    fn from(_error: OutOfMemory) -> HostRefusal {
-        HostRefusal::OutOfMemory
-    }
-}
-
-impl From<AllocError> for HostRefusal {
-    ghost use Rattle.qt_host.specs.declared.refusal.HostRefusal.TheVariants.{OutOfMemory};
-
-    ghost from_gives = { λ _ e. e ≡ OutOfMemory };
-
-    fn from(_error: AllocError) -> HostRefusal {
-        HostRefusal::OutOfMemory
-    }
-}
 
 /// The text of that name, as far as it is read.
 fn fetched<S: Shelf>(alloc: Global, shelf: &mut S, name: &str) -> Result<Vec<u8>, HostRefusal>

@@ -1,16 +1,20 @@
 ghost use Rattle.std.specs.Prelude.{◌≡◌, ◌≢◌, ℕ, List, ◌<◌, ◌⊎◌, map, string_bytes, Some};
 ghost use Rattle.qt_outside.specs.Causes.{Texts, Rose};
-ghost use Rattle.qt_host.specs.Lines.{IsLine, TellsRefusal, fault_line, named};
-ghost use Rattle.qt_host.specs.Said.{Said, refused, Asks, AreServed};
-ghost use Rattle.qt_host.specs.Puts.{seen, PutsLine, Answered, AnsweredInPart};
+ghost use Rattle.qt_words.specs.Words.{Asks, AreServed, named};
+ghost use Rattle.qt_lines.specs.Lines.{IsLine};
+ghost use Rattle.qt_lines.specs.Puts.{seen, PutsLine};
+ghost use Rattle.qt_host.specs.Lines.{TellsRefusal, fault_line};
+ghost use Rattle.qt_host.specs.Said.{Said, refused};
+ghost use Rattle.qt_host.specs.Puts.{Answered, AnsweredInPart};
 
 use crate::answer::answer_at;
-use crate::lines::put_lines;
-use crate::request::request_of;
-use crate::tell::{tell, tell_sink, tell_want, tell_words};
+use crate::tell::tell;
+use qt_lines::cut::put_lines;
+use qt_lines::tell::{tell_sink, tell_want, tell_words};
 use qt_outside::faults::PutFault;
 use qt_outside::shelf::Shelf;
 use qt_outside::sink::Sink;
+use qt_words::request::request_of;
 use std::alloc::Global;
 
 /// Answers the words of a command line, without the program's name: `run NAME` puts the report of the program in the text

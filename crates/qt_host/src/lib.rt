@@ -11,7 +11,5 @@
 pub mod answer;
 pub mod host;
 pub mod laws;
-mod lines;
 pub mod refusal;
-mod request;
-pub mod tell;
+mod tell;

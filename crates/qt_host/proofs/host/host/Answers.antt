@@ -1,8 +1,10 @@
 use Rattle.std.proofs.Common.{ℕ, List, inr, ap, subst, sym, map, string_bytes}
 use Rattle.qt_outside.specs.Causes.{text_of}
-use Rattle.qt_host.specs.Puts.{PutsLine}
-use Rattle.qt_host.specs.Steps.{mode_word, IsAnswer}
-use Rattle.qt_host.specs.Lines.{TellsRefusal, named}
+use Rattle.qt_words.specs.Words.{named}
+use Rattle.qt_words.specs.Requests.{mode_word}
+use Rattle.qt_lines.specs.Puts.{PutsLine}
+use Rattle.qt_host.specs.Steps.{IsAnswer}
+use Rattle.qt_host.specs.Lines.{TellsRefusal}
 use Rattle.qt_host.proofs.Answers.{said, told, line_of_status, refused_line}
 use Rattle.qt_host.proofs.host.host.Goals as goal
 
