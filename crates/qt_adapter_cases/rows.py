@@ -36,9 +36,10 @@ def main():
         ('paint coin.qasm', 'no row'),
         ('fetch coin.qasm much', 'no row'),
     ]
-    for name, lines in (('data/long.txt', [LONG]), ('stdin', [row + '\n' for row, _ in rows]), ('stdout', [told + '\n' for _, told in rows])):
+    texts = [LONG, ''.join(row + '\n' for row, _ in rows), ''.join(answer + '\n' for _, answer in rows)]
+    for name, text in zip(('data/long.txt', 'stdin', 'stdout'), texts):
         with open(name, 'w', encoding='ascii') as file:
-            file.writelines(lines)
+            file.write(text)
 
 
 if __name__ == '__main__':

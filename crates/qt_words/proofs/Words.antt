@@ -4,7 +4,8 @@ use Rattle.qt_words.specs.declared.request.Mode.TheVariants.{Run, Format}
 use Rattle.qt_words.specs.Words.{IsMode, AreServed}
 use Rattle.qt_words.specs.Requests.{IsNoMode}
 
-pub two_items : {A : Type 0} (xs : List A) (a b : A) → 2 ≤ length xs → length xs < 3 → a ≡ get_or xs 0 a → b ≡ get_or xs 1 b → xs ≡ a ∷ b ∷ []
+pub two_items : {A : Type 0} (xs : List A) (a b : A) → 2 ≤ length xs → length xs < 3
+    → a ≡ get_or xs 0 a → b ≡ get_or xs 1 b → xs ≡ a ∷ b ∷ []
 two_items [] a b h k e f = absurd (omega arith)
 two_items (x ∷ []) a b h k e f = absurd (omega arith)
 two_items (x ∷ y ∷ []) a b h k e f = ap (λ t. t ∷ y ∷ []) (sym e) ∙ ap (λ t. a ∷ t ∷ []) (sym f)

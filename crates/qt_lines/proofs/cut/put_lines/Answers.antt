@@ -14,7 +14,7 @@ loop-rest-preserved g c =
     let line = c.split_at.result.0.now in
     let behind = c.split_at.result.1.now in
     let done = c.loop-rest.invariant.0 in
-    let rest : c.loop-rest.rest.now ≡ line ++ behind = pieces c.loop-rest.rest.now line behind c.first_line.result c.split_at.ensures.front c.split_at.ensures.back in (
+    let rest = pieces c.loop-rest.rest.now line behind c.first_line.result c.split_at.ensures.front c.split_at.ensures.back in (
       done ++ line,
       c.loop-rest.invariant.1 ∙ ap (λ (t : List ℕ). done ++ t) rest ∙ sym (append_assoc done line behind),
       more_put _ _ _ done line c.loop-rest.invariant.2 c.in_default.ensures.bytes c.in_default.ensures.cause,
@@ -25,7 +25,9 @@ returns-in-Err-clause-refused g c =
     let line = c.split_at.result.0.now in
     let behind = c.split_at.result.1.now in
     let done = c.loop-rest.invariant.0 in
-    let rest : c.loop-rest.rest.now ≡ line ++ behind = pieces c.loop-rest.rest.now line behind c.first_line.result c.split_at.ensures.front c.split_at.ensures.back in
+    let rest = pieces c.loop-rest.rest.now line behind c.first_line.result c.split_at.ensures.front c.split_at.ensures.back in
     let text : c.args.text.now ≡ done ++ (line ++ behind) = c.loop-rest.invariant.1 ∙ ap (λ (t : List ℕ). done ++ t) rest in
-    subst (λ (t : List ℕ). IsCut t (seen g.O.Sink.bytes g.O.Sink.faults g.O.Sink.wants c.args.out.now) (seen g.O.Sink.bytes g.O.Sink.faults g.O.Sink.wants c.put.new.self) c.in-Err.fault) (sym text)
+    let before = seen g.O.Sink.bytes g.O.Sink.faults g.O.Sink.wants c.args.out.now in
+    let after = seen g.O.Sink.bytes g.O.Sink.faults g.O.Sink.wants c.put.new.self in
+    subst (λ (t : List ℕ). IsCut t before after c.in-Err.fault) (sym text)
     (cut_more _ _ _ done line behind c.in-Err.fault c.loop-rest.invariant.2 c.in-Err.ensures.bytes c.in-Err.ensures.cause)
