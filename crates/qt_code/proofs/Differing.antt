@@ -1,12 +1,11 @@
 -- The references of a primitive, list by list: tests of all of them, of some of them, and that fixed qubits differ.
-use Rattle.std.proofs.Common.{◌≡◌, refl, sym, ◌∙◌, ap, ℕ, ◌≤◌, Bool, true, false, not, ◌&&◌, ◌||◌, List, [], ◌∷◌, ◌++◌, length, Some}
-use Rattle.std.proofs.lemmas.List.{append_assoc, drop_all}
+use Rattle.std.proofs.Common.{◌≡◌, refl, sym, ◌∙◌, ap, Bool, true, false, not, ◌&&◌, ◌||◌, List, [], ◌∷◌, ◌++◌}
+use Rattle.std.proofs.lemmas.List.{append_assoc}
 use Rattle.std.proofs.lemmas.List.Folds.{list_all-append, list_any-append}
 use Rattle.std.specs.List.{list_all, list_any}
-use Rattle.qt_code.specs.declared.reference.QubitRef.{QubitRef}
-use Rattle.qt_code.specs.declared.reference.QubitRef.TheVariants as qubit
-use Rattle.qt_code.specs.declared.instruction.Instr.{Instr}
-use Rattle.qt_code.specs.Tested.{differ, is_fixed_at, is_inside, is_new, stays_outside}
+use Rattle.qt_instructions.specs.declared.reference.QubitRef.{QubitRef}
+use Rattle.qt_instructions.specs.declared.reference.QubitRef.TheVariants as qubit
+use Rattle.qt_code.specs.Different.{differ, is_fixed_at, is_new}
 
 -- ---- tests
 
@@ -92,8 +91,3 @@ differ_turned ones zeros q =
     ∙ ap (λ b. (differ (ones ++ zeros) && list_all apart (ones ++ zeros)) && b) (differ_one q)
     ∙ ap (λ b. (differ (ones ++ zeros) && b) && true) (list_all-append apart ones zeros)
     ∙ last_true (differ (ones ++ zeros)) (list_all apart ones) (list_all apart zeros)
-
--- ---- behind the end
-
-pub nothing_inside : (code : List Instr) (number : ℕ) → length code ≤ number → stays_outside code (Some number) ≡ true
-nothing_inside code number h = ap (λ rest. not (is_inside rest)) (drop_all number code h)

@@ -7,18 +7,18 @@ use Rattle.qt_value.specs.declared.operators.Op.TheVariants as op
 use Rattle.qt_value.specs.declared.types.ValueType.TheVariants as kind
 use Rattle.qt_meaning.specs.Points.{Signal, Faulted, Dry, Leaf}
 use Rattle.qt_meaning.specs.Values.{Divide, Index, SameQubit, with_bit, operated, number_of, place_in, is_true}
-use Rattle.qt_code.specs.declared.reference.QubitRef.TheVariants as qubit
-use Rattle.qt_code.specs.declared.reference.AngleRef.TheVariants as angle
-use Rattle.qt_code.specs.declared.primitive.Primitive.TheVariants as primitive
-use Rattle.qt_code.specs.declared.angle.AngleArg.TheVariants as argument
-use Rattle.qt_code.specs.declared.angle.AngleStep.TheVariants as step
-use Rattle.qt_code.specs.declared.angle.AngleOperation.TheVariants as phase
-use Rattle.qt_code.specs.declared.instruction.Operand.{Operand}
-use Rattle.qt_code.specs.declared.instruction.Operation.TheVariants as operation
-use Rattle.qt_code.specs.declared.instruction.Store.TheVariants as store
-use Rattle.qt_code.specs.declared.instruction.Instr.{Instr}
-use Rattle.qt_code.specs.declared.instruction.Instr.TheVariants as instr
-use Rattle.qt_code.specs.declared.parts.Parts.{Parts}
+use Rattle.qt_instructions.specs.declared.reference.QubitRef.TheVariants as qubit
+use Rattle.qt_instructions.specs.declared.reference.AngleRef.TheVariants as angle
+use Rattle.qt_instructions.specs.declared.primitive.Primitive.TheVariants as primitive
+use Rattle.qt_instructions.specs.declared.angle.AngleArg.TheVariants as argument
+use Rattle.qt_instructions.specs.declared.angle.AngleStep.TheVariants as step
+use Rattle.qt_instructions.specs.declared.angle.AngleOperation.TheVariants as phase
+use Rattle.qt_instructions.specs.declared.instruction.Operand.{Operand}
+use Rattle.qt_instructions.specs.declared.instruction.Operation.TheVariants as operation
+use Rattle.qt_instructions.specs.declared.instruction.Store.TheVariants as store
+use Rattle.qt_instructions.specs.declared.instruction.Instr.{Instr}
+use Rattle.qt_instructions.specs.declared.instruction.Instr.TheVariants as instr
+use Rattle.qt_instructions.specs.declared.parts.Parts.{Parts}
 use Rattle.qt_code.specs.Validity.{is_valid}
 use Rattle.qt_code.specs.Tail.{leaves_from_start}
 

@@ -1,6 +1,8 @@
-pub mod Conversions
+pub mod Agreeing
 pub mod Differing
 mod Examples
+pub mod Numbered
+pub mod Passing
 pub mod Rooms
 pub mod Steps
 mod Ways

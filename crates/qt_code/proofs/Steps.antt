@@ -6,9 +6,9 @@ use Rattle.std.proofs.lemmas.Bool.{ltb-true, lt-ltb, le-ltb}
 use Rattle.qt_tree.specs.declared.place.Place.{Place}
 use Rattle.qt_meaning.specs.Points.{Point, Run, choose, spend}
 use Rattle.qt_meaning.specs.Values.{is_true}
-use Rattle.qt_code.specs.declared.instruction.Instr.{Instr}
-use Rattle.qt_code.specs.declared.instruction.Instr.TheVariants as instr
-use Rattle.qt_code.specs.declared.parts.Parts.{Parts}
+use Rattle.qt_instructions.specs.declared.instruction.Instr.{Instr}
+use Rattle.qt_instructions.specs.declared.instruction.Instr.TheVariants as instr
+use Rattle.qt_instructions.specs.declared.parts.Parts.{Parts}
 use Rattle.qt_code.specs.Cells.{Cells}
 use Rattle.qt_code.specs.Tail.{Next, act, goes, exec, lines, spent, tail}
 

@@ -4,12 +4,14 @@ use Rattle.std.proofs.lemmas.Bool.{false≢true, eqb-true, ltb-true, ltb-false}
 use Rattle.std.specs.List.{list_all, range_with_len, zip}
 use Rattle.qt_tree.specs.declared.place.Place.{Place}
 use Rattle.qt_ring.proofs.RingLaws.{and_left, and_right}
-use Rattle.qt_code.specs.declared.instruction.Instr.{Instr}
-use Rattle.qt_code.specs.declared.instruction.Instr.TheVariants as instr
-use Rattle.qt_code.specs.declared.parts.Parts.{Parts}
-use Rattle.qt_code.specs.Jumps.{is_tick, jump_fits, may_go, target_at}
+use Rattle.qt_instructions.specs.declared.instruction.Instr.{Instr}
+use Rattle.qt_instructions.specs.declared.instruction.Instr.TheVariants as instr
+use Rattle.qt_instructions.specs.declared.parts.Parts.{Parts}
+use Rattle.qt_code_rules.specs.Counts.{has_counts, has_few_cells, has_few_qubits}
+use Rattle.qt_code_rules.specs.Jumps.{is_tick, jump_fits, may_go, target_at}
 use Rattle.qt_code.specs.Laws.{ConditionsDecide, JumpsGoOn, TicksSpend}
-use Rattle.qt_code.specs.Validity.{IsValid, has_counts, has_end, has_few_cells, has_few_qubits, has_fixed_qubits, has_jumps, has_ranges, has_tests, has_told}
+use Rattle.qt_code.specs.Validity.{IsValid, has_end, has_fixed_qubits, has_jumps, has_ranges, has_tests, has_told}
+use Rattle.qt_code.proofs.Numbered.{all_told}
 use Rattle.qt_code.proofs.Steps.{Goes, goes_ahead, goes_back, jump_at, jump_if_at, tick_at}
 
 -- ---- lists
@@ -32,17 +34,6 @@ found [] ps at i len h = absurd (no_some i h)
 found (x ∷ is) [] at i len h = absurd (omega (arith, len))
 found (x ∷ is) (q ∷ ps) zero i len h = (q, ap (λ (j : Instr). Some (j, q)) (some_instruction x i h))
 found (x ∷ is) (q ∷ ps) (suc at) i len h = found is ps at i (omega (arith, len)) h
-
-all_numbers : (test : ℕ → Bool) (first count k : ℕ) → list_all test (range_with_len first count) ≡ true → k < count
-    → test (first + k) ≡ true
-all_numbers test first zero k h lt = absurd (omega (arith, lt))
-all_numbers test first (suc count) zero h lt =
-    let e : first ≡ first + 0 = omega arith in
-    subst (λ n. test n ≡ true) e (and_left (test first) (list_all test (range_with_len (first + 1) count)) h)
-all_numbers test first (suc count) (suc k) h lt =
-    let e : first + 1 + k ≡ first + suc k = omega arith in
-    subst (λ n. test n ≡ true) e
-    (all_numbers test (first + 1) count k (and_right (test first) (list_all test (range_with_len (first + 1) count)) h) (omega (arith, lt)))
 
 -- ---- the rules
 
@@ -79,8 +70,7 @@ fits_at : (code : Parts) (at : ℕ) (i : Instr) → IsValid code → slice_get c
 fits_at code at i valid h =
     let lt = within code.instructions at i h in
     sym (ap (λ (o : Option Instr). may_go code.instructions at (target_at o)) h)
-    ∙ ap (jump_fits code.instructions) (sym (zero-add at))
-    ∙ all_numbers (jump_fits code.instructions) 0 (length code.instructions) at (jumping code valid) lt
+    ∙ all_told (jump_fits code.instructions) 0 (length code.instructions) at (jumping code valid) (omega arith) (omega (arith, lt))
 
 -- ---- ways
 

@@ -12,24 +12,24 @@ use Rattle.qt_gate_calls.specs.Units.{KnownUnits, sum_of, difference_of, negativ
 use Rattle.qt_meaning.specs.Applying.{different}
 use Rattle.qt_meaning.specs.Expressions.{angle_units}
 use Rattle.qt_meaning.specs.Values.{Evaluated, Index, BadAngle, and_then, or_fault, evaluated, lowest, number_of, operated, operated_alone, place_in}
-use Rattle.qt_code.specs.declared.reference.QubitRef.{QubitRef}
-use Rattle.qt_code.specs.declared.reference.QubitRef.TheVariants as qubit
-use Rattle.qt_code.specs.declared.reference.AngleRef.{AngleRef}
-use Rattle.qt_code.specs.declared.reference.AngleRef.TheVariants as angle
-use Rattle.qt_code.specs.declared.primitive.Primitive.{Primitive}
-use Rattle.qt_code.specs.declared.primitive.Primitive.TheVariants as primitive
-use Rattle.qt_code.specs.declared.angle.AngleArg.{AngleArg}
-use Rattle.qt_code.specs.declared.angle.AngleArg.TheVariants as argument
-use Rattle.qt_code.specs.declared.angle.AngleStep.{AngleStep}
-use Rattle.qt_code.specs.declared.angle.AngleStep.TheVariants as step
-use Rattle.qt_code.specs.declared.angle.AngleOperation.{AngleOperation}
-use Rattle.qt_code.specs.declared.angle.AngleOperation.TheVariants as phase
-use Rattle.qt_code.specs.declared.instruction.Operand.{Operand}
-use Rattle.qt_code.specs.declared.instruction.Operation.{Operation}
-use Rattle.qt_code.specs.declared.instruction.Operation.TheVariants as operation
-use Rattle.qt_code.specs.declared.instruction.Store.{Store}
-use Rattle.qt_code.specs.declared.instruction.Store.TheVariants as store
-use Rattle.qt_code.specs.Tested.{references_of}
+use Rattle.qt_instructions.specs.declared.reference.QubitRef.{QubitRef}
+use Rattle.qt_instructions.specs.declared.reference.QubitRef.TheVariants as qubit
+use Rattle.qt_instructions.specs.declared.reference.AngleRef.{AngleRef}
+use Rattle.qt_instructions.specs.declared.reference.AngleRef.TheVariants as angle
+use Rattle.qt_instructions.specs.declared.primitive.Primitive.{Primitive}
+use Rattle.qt_instructions.specs.declared.primitive.Primitive.TheVariants as primitive
+use Rattle.qt_instructions.specs.declared.angle.AngleArg.{AngleArg}
+use Rattle.qt_instructions.specs.declared.angle.AngleArg.TheVariants as argument
+use Rattle.qt_instructions.specs.declared.angle.AngleStep.{AngleStep}
+use Rattle.qt_instructions.specs.declared.angle.AngleStep.TheVariants as step
+use Rattle.qt_instructions.specs.declared.angle.AngleOperation.{AngleOperation}
+use Rattle.qt_instructions.specs.declared.angle.AngleOperation.TheVariants as phase
+use Rattle.qt_instructions.specs.declared.instruction.Operand.{Operand}
+use Rattle.qt_instructions.specs.declared.instruction.Operation.{Operation}
+use Rattle.qt_instructions.specs.declared.instruction.Operation.TheVariants as operation
+use Rattle.qt_instructions.specs.declared.instruction.Store.{Store}
+use Rattle.qt_instructions.specs.declared.instruction.Store.TheVariants as store
+use Rattle.qt_code.specs.Different.{references_of}
 
 -- ---- cells
 

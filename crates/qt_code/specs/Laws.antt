@@ -3,8 +3,8 @@
 use Rattle.std.specs.Prelude.{◌≡◌, ℕ, suc, Some, slice_get}
 use Rattle.qt_meaning.specs.Points.{Point, choose, spend}
 use Rattle.qt_meaning.specs.Values.{is_true}
-use Rattle.qt_code.specs.declared.instruction.Instr.TheVariants as instr
-use Rattle.qt_code.specs.declared.parts.Parts.{Parts}
+use Rattle.qt_instructions.specs.declared.instruction.Instr.TheVariants as instr
+use Rattle.qt_instructions.specs.declared.parts.Parts.{Parts}
 use Rattle.qt_code.specs.Cells.{Cells}
 use Rattle.qt_code.specs.Tail.{tail}
 use Rattle.qt_code.specs.Validity.{IsValid}

@@ -1,8 +1,14 @@
-pub mod Ranges
-pub mod Jumps
+pub mod Different
 pub mod Tested
+pub mod Passes
 pub mod Layouts
 pub mod Validity
 pub mod Cells
 pub mod Tail
 pub mod Laws
+pub use Rattle.qt_code_rules.specs.Counts
+pub use Rattle.qt_code_rules.specs.Jumps
+pub use Rattle.qt_code_rules.specs.Ranges
+pub use Rattle.qt_code_rules.specs.References
+pub use Rattle.qt_instructions.specs.Equality
+pub use Rattle.qt_instructions.specs.Targets

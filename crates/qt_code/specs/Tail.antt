@@ -17,11 +17,11 @@ use Rattle.qt_meaning.specs.Distribution.{AllLeaves, NotDry, NoFault}
 use Rattle.qt_meaning.specs.Measuring.{measured, reset}
 use Rattle.qt_meaning.specs.Points.{Did, Point, Ended, Dry, Leaf, Run, leaf, then_do, choose, with_result, put, noted}
 use Rattle.qt_meaning.specs.Values.{is_true, with_bit, converted_to, slot_at}
-use Rattle.qt_code.specs.declared.instruction.Instr.{Instr}
-use Rattle.qt_code.specs.declared.instruction.Instr.TheVariants.{Tick, Load, Get, Put, GetAt, PutAt, BitGet, BitPut, Apply, Cast, Turns, AngleOp, Qubit, Distinct, Gate, Measure, Reset, Jump, JumpIf, End}
-use Rattle.qt_code.specs.declared.instruction.Store.{Store}
-use Rattle.qt_code.specs.declared.instruction.Store.TheVariants as store
-use Rattle.qt_code.specs.declared.parts.Parts.{Parts}
+use Rattle.qt_instructions.specs.declared.instruction.Instr.{Instr}
+use Rattle.qt_instructions.specs.declared.instruction.Instr.TheVariants.{Tick, Load, Get, Put, GetAt, PutAt, BitGet, BitPut, Apply, Cast, Turns, AngleOp, Qubit, Distinct, Gate, Measure, Reset, Jump, JumpIf, End}
+use Rattle.qt_instructions.specs.declared.instruction.Store.{Store}
+use Rattle.qt_instructions.specs.declared.instruction.Store.TheVariants as store
+use Rattle.qt_instructions.specs.declared.parts.Parts.{Parts}
 use Rattle.qt_code.specs.Cells.{Cells, no_cells, with_cell, place_by, result_by, turns_by, phase_by, qubit_by, qubit_of, different_by, primitive_by, place_of_store}
 
 -- ---- primitives as matrices

@@ -1,69 +1,31 @@
--- The references of a primitive: its fixed qubits differ, and those in work cells were tested to differ just before (flat code is this
--- profile's; OpenQASM 3.0 live specification, "Gates", applying gates). A Distinct tests references. They count as tested behind it, as
--- long as only gates and arithmetic of phases follow; then they count as tested no more. No jump goes in between.
-use Rattle.std.specs.Prelude.{ℕ, Bool, true, false, not, ◌&&◌, ◌||◌, nat_eq, List, [], ◌∷◌, ◌++◌, drop, Option, Some, None}
-use Rattle.std.specs.List.{list_all, list_any}
-use Rattle.qt_code.specs.declared.reference.QubitRef.{QubitRef}
-use Rattle.qt_code.specs.declared.reference.QubitRef.TheVariants as qubit
-use Rattle.qt_code.specs.declared.primitive.Primitive.{Primitive}
-use Rattle.qt_code.specs.declared.primitive.Primitive.TheVariants as primitive
-use Rattle.qt_code.specs.declared.instruction.Instr.{Instr}
-use Rattle.qt_code.specs.declared.instruction.Instr.TheVariants as instr
-use Rattle.qt_code.specs.Jumps.{target_of}
+-- Primitives on qubits that are known in the run only: their references were tested to differ (flat code is this profile's; OpenQASM 3.0 live
+-- specification, "Gates", applying gates). A primitive with references in work cells stands behind a Distinct of all of them, with only gates
+-- and arithmetic of phases in between, and no jump lands behind the Distinct and not behind the primitive.
+use Rattle.std.specs.Prelude.{ℕ, suc, ◌-◌, Bool, true, false, not, ◌&&◌, ◌||◌, nat_le, nat_lt, List, length, slice_get, Option, Some, None}
+use Rattle.std.specs.List.{list_all, list_any, range_with_len}
+use Rattle.qt_instructions.specs.declared.reference.QubitRef.{QubitRef}
+use Rattle.qt_instructions.specs.declared.reference.QubitRef.TheVariants as qubit
+use Rattle.qt_instructions.specs.declared.instruction.Instr.{Instr}
+use Rattle.qt_instructions.specs.declared.instruction.Instr.TheVariants as instr
+use Rattle.qt_instructions.specs.Targets.{target_of}
+use Rattle.qt_code_rules.specs.References.{is_tested}
+use Rattle.qt_code.specs.Different.{references_of}
 
--- the controls that are to be 1, those that are to be 0, and the qubit of U
-abbrev pub references_of : Primitive → List QubitRef
-references_of (primitive.Turn ones zeros q theta phi lambda) = ones ++ (zeros ++ (q ∷ []))
-references_of (primitive.Phase ones zeros gamma) = ones ++ zeros
+-- ---- instructions by their numbers
 
--- ---- fixed qubits
+abbrev pub some_passes : (Instr → Bool) → Option Instr → Bool
+some_passes test None = false
+some_passes test (Some i) = test i
 
-abbrev pub is_fixed_at : ℕ → QubitRef → Bool
-is_fixed_at q (qubit.At r) = nat_eq q r
-is_fixed_at q (qubit.Work cell) = false
+-- an instruction stands there, and passes the test
+abbrev pub passes : (Instr → Bool) → List Instr → ℕ → Bool
+passes test code at = some_passes test (slice_get code at)
 
--- a fixed qubit is none of those; a qubit in a work cell is known in the run only
-abbrev pub is_new : QubitRef → List QubitRef → Bool
-is_new (qubit.At q) others = not (list_any (is_fixed_at q) others)
-is_new (qubit.Work cell) others = true
+-- each does from one number on, up to another but for that
+abbrev pub all_pass : (Instr → Bool) → List Instr → ℕ → ℕ → Bool
+all_pass test code from to = list_all (passes test code) (range_with_len from (to - from))
 
--- each fixed qubit is none of those behind it
-abbrev pub differ : List QubitRef → Bool
-differ [] = true
-differ (r ∷ rs) = is_new r rs && differ rs
-
-abbrev pub has_different_qubits : Instr → Bool
-has_different_qubits (instr.Gate p) = differ (references_of p)
-has_different_qubits _ = true
-
--- ---- tested references
-
-abbrev pub is_cell : ℕ → QubitRef → Bool
-is_cell cell (qubit.At q) = false
-is_cell cell (qubit.Work other) = nat_eq cell other
-
--- a fixed qubit needs no test
-abbrev pub is_tested : List QubitRef → QubitRef → Bool
-is_tested tested (qubit.At q) = true
-is_tested tested (qubit.Work cell) = list_any (is_cell cell) tested
-
-abbrev pub applies_tested : List QubitRef → Instr → Bool
-applies_tested tested (instr.Gate p) = list_all (is_tested tested) (references_of p)
-applies_tested tested _ = true
-
--- what counts as tested behind an instruction
-abbrev pub tested_behind : List QubitRef → Instr → List QubitRef
-tested_behind tested (instr.Distinct qubits) = qubits
-tested_behind tested (instr.Gate p) = tested
-tested_behind tested (instr.AngleOp cell operation) = tested
-tested_behind tested _ = []
-
--- the references of each primitive are tested where it is applied
-abbrev pub all_tested : List QubitRef → List Instr → Bool
-all_tested tested [] = true
-all_tested tested (i ∷ is) = applies_tested tested i && all_tested (tested_behind tested i) is
-
--- ---- no jump in between
+-- ---- tests
 
 abbrev pub is_work : QubitRef → Bool
 is_work (qubit.At q) = false
@@ -74,20 +36,38 @@ abbrev pub needs_test : Instr → Bool
 needs_test (instr.Gate p) = list_any is_work (references_of p)
 needs_test _ = false
 
+-- gates and arithmetic of phases
 abbrev pub keeps_tested : Instr → Bool
 keeps_tested (instr.Gate p) = true
 keeps_tested (instr.AngleOp cell operation) = true
 keeps_tested _ = false
 
--- from here such a primitive is reached over nothing but gates and arithmetic of phases, so its test stands before
-abbrev pub is_inside : List Instr → Bool
-is_inside [] = false
-is_inside (i ∷ is) = needs_test i || (keeps_tested i && is_inside is)
+-- a Distinct of all references in work cells of a primitive
+abbrev pub is_test_of : Option Instr → Option Instr → Bool
+is_test_of (Some (instr.Distinct qubits)) (Some (instr.Gate p)) = list_all (is_tested qubits) (references_of p)
+is_test_of _ _ = false
 
-abbrev pub stays_outside : List Instr → Option ℕ → Bool
-stays_outside code None = true
-stays_outside code (Some to) = not (is_inside (drop to code))
+-- the second number is that of a test of the primitive with the first, and only gates and arithmetic of phases stand in between
+abbrev pub is_test_for : List Instr → ℕ → ℕ → Bool
+is_test_for code at test = is_test_of (slice_get code test) (slice_get code at) && all_pass keeps_tested code (suc test) at
 
--- no jump goes to an instruction behind a test and not behind all that it is for
-abbrev pub jumps_stay_outside : List Instr → Bool
-jumps_stay_outside code = list_all (λ i. stays_outside code (target_of i)) code
+-- ---- jumps
+
+abbrev pub is_between : ℕ → ℕ → Option ℕ → Bool
+is_between test at None = false
+is_between test at (Some to) = nat_lt test to && nat_le to at
+
+-- some jump lands behind the test, and not behind the primitive
+abbrev pub has_jump_between : List Instr → ℕ → ℕ → Bool
+has_jump_between code at test = list_any (λ i. is_between test at (target_of i)) code
+
+-- ---- the rule
+
+abbrev pub is_tested_at : List Instr → ℕ → Bool
+is_tested_at code at =
+    not (passes needs_test code at)
+    || list_any (λ test. is_test_for code at test && not (has_jump_between code at test)) (range_with_len 0 at)
+
+-- each primitive with a reference in a work cell stands behind such a test
+abbrev pub all_tested : List Instr → Bool
+all_tested code = list_all (is_tested_at code) (range_with_len 0 (length code))

@@ -1,26 +1,19 @@
 -- Which parts are valid flat code: nine rules (flat code is this profile's). Valid code goes on until a leaf from every start that fits.
-use Rattle.std.specs.Prelude.{◌^◌, Bool, ◌&&◌, nat_eq, nat_lt, nat_le, IsTrue, [], length}
+use Rattle.std.specs.Prelude.{Bool, ◌&&◌, IsTrue}
 use Rattle.std.specs.List.{list_all}
-use Rattle.qt_ring.specs.declared.TheConstants.{QUBITS}
-use Rattle.qt_code.specs.declared.ranges.Sizes.{Sizes}
-use Rattle.qt_code.specs.declared.parts.Parts.{Parts}
-use Rattle.qt_code.specs.Jumps.{ends_well, jumps_fit}
+use Rattle.qt_code_rules.specs.declared.ranges.Sizes.{Sizes}
+use Rattle.qt_instructions.specs.declared.parts.Parts.{Parts}
+use Rattle.qt_code_rules.specs.Counts.{has_counts, has_few_cells, has_few_qubits}
+use Rattle.qt_code_rules.specs.Jumps.{ends_well, jumps_fit}
 use Rattle.qt_code.specs.Layouts.{has_layout}
-use Rattle.qt_code.specs.Ranges.{has_instruction}
-use Rattle.qt_code.specs.Tested.{has_different_qubits, all_tested, jumps_stay_outside}
+use Rattle.qt_code_rules.specs.Ranges.{has_instruction}
+use Rattle.qt_code.specs.Different.{has_different_qubits}
+use Rattle.qt_code.specs.Tested.{all_tested}
 
 abbrev pub sizes_of : Parts → Sizes
 sizes_of parts = record { slots = parts.slots; cells = parts.cells; qubits = parts.qubits }
 
--- 1: as many qubits as a state may have at the most
-abbrev pub has_few_qubits : Parts → Bool
-has_few_qubits parts = nat_le parts.qubits QUBITS
-
--- 2: fewer than 2^32 instructions, each with a place in the text, and a value for each slot
-abbrev pub has_counts : Parts → Bool
-has_counts parts =
-    nat_lt (length parts.instructions) (2 ^ 32) && nat_eq (length parts.places) (length parts.instructions)
-    && nat_eq (length parts.start) parts.slots
+-- 1, 2 and 9 are on how many there are of each: `has_few_qubits`, `has_counts` and `has_few_cells`
 
 -- 3: the last instruction is an end or a jump
 abbrev pub has_end : Parts → Bool
@@ -40,15 +33,11 @@ has_fixed_qubits parts = list_all has_different_qubits parts.instructions
 
 -- 7: references in work cells are tested before a primitive, and no jump goes in between
 abbrev pub has_tests : Parts → Bool
-has_tests parts = all_tested [] parts.instructions && jumps_stay_outside parts.instructions
+has_tests parts = all_tested parts.instructions
 
 -- 8: what is told has slots and types with a size
 abbrev pub has_told : Parts → Bool
 has_told parts = has_layout (sizes_of parts) parts.layout
-
--- 9: no program of an accepted size needs more work cells
-abbrev pub has_few_cells : Parts → Bool
-has_few_cells parts = nat_le parts.cells 16777216
 
 abbrev pub is_valid : Parts → Bool
 is_valid parts =

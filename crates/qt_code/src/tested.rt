@@ -1,160 +1,19 @@
-//! That the qubits of primitives differ, or were tested to differ.
+//! That the references of primitives were tested to differ.
 
-ghost use Rattle.std.specs.Prelude.{◌≡◌, [], ◌∷◌, ◌++◌, Some};
+ghost use Rattle.std.specs.Prelude.{◌≡◌, Some};
 ghost use Rattle.std.specs.List.{list_all, list_any};
-ghost use Rattle.qt_code.specs.Jumps.{target_of};
-ghost use Rattle.qt_code.specs.Tested.{all_tested, applies_tested, differ, has_different_qubits, is_cell, is_fixed_at, is_inside};
-ghost use Rattle.qt_code.specs.Tested.{is_new, is_tested, is_work, jumps_stay_outside, keeps_tested, needs_test, references_of, stays_outside, tested_behind};
+ghost use Rattle.qt_instructions.specs.Targets.{target_of};
+ghost use Rattle.qt_code_rules.specs.References.{is_tested};
+ghost use Rattle.qt_code.specs.Different.{references_of};
+ghost use Rattle.qt_code.specs.Passes.{all_have_tests, applies_tested, is_inside, jumps_stay_outside, stays_outside, tested_behind};
+ghost use Rattle.qt_code.specs.Tested.{all_tested, is_work, keeps_tested, needs_test};
 
-use crate::instruction::Instr;
-use crate::primitive::Primitive;
-use crate::reference::QubitRef;
+use qt_code_rules::references::{are_tested, is_tested};
+use qt_instructions::instruction::Instr;
+use qt_instructions::primitive::Primitive;
+use qt_instructions::reference::QubitRef;
 
-// ---- fixed qubits
-
-fn is_fixed_at(qubit: u8, reference: QubitRef) -> bool
-    ensures { result ≡ is_fixed_at qubit reference }
-{
-    match reference {
-        QubitRef::At(other) => qubit == other,
-        QubitRef::Work(_) => false,
-    }
-}
-
-fn is_fixed_in(qubit: u8, others: &[QubitRef]) -> bool
-    ensures { result ≡ list_any (is_fixed_at qubit) others.now }
-{
-    others.iter().any(|other| is_fixed_at(qubit, *other))
-}
-
-/// A fixed qubit is none of the others.
-fn is_new(reference: QubitRef, others: &[QubitRef]) -> bool
-    ensures { result ≡ is_new reference others.now }
-{
-    match reference {
-        QubitRef::At(qubit) => !is_fixed_in(qubit, others),
-        QubitRef::Work(_) => true,
-    }
-}
-
-/// Each fixed qubit of some references is none of others.
-fn are_new(references: &[QubitRef], others: &[QubitRef]) -> bool
-    ensures { result ≡ list_all (λ r. is_new r others.now) references.now }
-{
-    references
-        .iter()
-        .all(|reference| is_new(*reference, others))
-}
-
-/// The fixed qubits differ.
-fn differ(mut references: &[QubitRef]) -> bool
-    ensures { result ≡ differ references.entry.now }
-{
-    'references: while let [first, rest @ ..] = references {
-        if !is_new(*first, rest) {
-            return false;
-        }
-        references = rest;
-    }
-    true
-}
-
-/// The fixed qubits of two lists of references differ.
-#[tactic(auto, using(crate::proofs::Differing::differ_append))]
-fn all_differ(ones: &[QubitRef], zeros: &[QubitRef]) -> bool
-    ensures { result ≡ differ (ones.now ++ zeros.now) }
-{
-    differ(ones) && are_new(ones, zeros) && differ(zeros)
-}
-
-/// A reference isn't to the same fixed qubit as another.
-fn is_apart(reference: QubitRef, other: QubitRef) -> bool
-    ensures { result ≡ is_new reference (other ∷ []) }
-{
-    match reference {
-        QubitRef::At(qubit) => !is_fixed_at(qubit, other),
-        QubitRef::Work(_) => true,
-    }
-}
-
-fn are_apart(references: &[QubitRef], other: QubitRef) -> bool
-    ensures { result ≡ list_all (λ r. is_new r (other ∷ [])) references.now }
-{
-    references
-        .iter()
-        .all(|reference| is_apart(*reference, other))
-}
-
-/// The fixed qubits of a primitive differ.
-#[tactic(auto, using(crate::proofs::Differing::differ_turned))]
-fn primitive_differs(primitive: &Primitive) -> bool
-    ensures { result ≡ differ (references_of primitive.now) }
-{
-    match primitive {
-        Primitive::Turn {
-            ones,
-            zeros,
-            target,
-            ..
-        } => {
-            all_differ(ones.items(), zeros.items())
-                && are_apart(ones.items(), *target)
-                && are_apart(zeros.items(), *target)
-        }
-        Primitive::Phase { ones, zeros, .. } => all_differ(ones.items(), zeros.items()),
-    }
-}
-
-fn has_different_qubits(instruction: &Instr) -> bool
-    ensures { result ≡ has_different_qubits instruction.now }
-{
-    match instruction {
-        Instr::Gate { primitive } => primitive_differs(primitive),
-        _ => true,
-    }
-}
-
-/// The fixed qubits of each primitive differ.
-pub fn have_different_qubits(code: &[Instr]) -> bool
-    ensures { result ≡ list_all has_different_qubits code.now }
-{
-    code.iter()
-        .all(|instruction| has_different_qubits(instruction))
-}
-
-// ---- tested references
-
-fn is_cell(cell: u32, reference: QubitRef) -> bool
-    ensures { result ≡ is_cell cell reference }
-{
-    match reference {
-        QubitRef::At(_) => false,
-        QubitRef::Work(other) => cell == other,
-    }
-}
-
-fn is_cell_in(cell: u32, tested: &[QubitRef]) -> bool
-    ensures { result ≡ list_any (is_cell cell) tested.now }
-{
-    tested.iter().any(|other| is_cell(cell, *other))
-}
-
-fn is_tested(tested: &[QubitRef], reference: QubitRef) -> bool
-    ensures { result ≡ is_tested tested.now reference }
-{
-    match reference {
-        QubitRef::At(_) => true,
-        QubitRef::Work(cell) => is_cell_in(cell, tested),
-    }
-}
-
-fn are_tested(tested: &[QubitRef], references: &[QubitRef]) -> bool
-    ensures { result ≡ list_all (is_tested tested.now) references.now }
-{
-    references
-        .iter()
-        .all(|reference| is_tested(tested, *reference))
-}
+// ---- behind a test
 
 #[tactic(auto, using(crate::proofs::Differing::all_turned, crate::proofs::Differing::all_phased))]
 fn is_primitive_tested(tested: &[QubitRef], primitive: &Primitive) -> bool
@@ -197,9 +56,10 @@ fn tested_behind<'a>(tested: &'a [QubitRef], instruction: &'a Instr) -> &'a [Qub
     }
 }
 
-/// The references of each primitive are tested where it is applied.
-pub fn all_tested(mut code: &[Instr]) -> bool
-    ensures { result ≡ all_tested [] code.entry.now }
+/// Each primitive that needs a test stands behind one.
+#[tactic(auto, using(crate::proofs::Passing::tests_passed))]
+fn all_have_tests(mut code: &[Instr]) -> bool
+    ensures { result ≡ all_have_tests code.entry.now }
 {
     let mut tested: &[QubitRef] = &[];
     'code: while let [first, rest @ ..] = code {
@@ -257,6 +117,7 @@ fn keeps_tested(instruction: &Instr) -> bool
 }
 
 /// From here a primitive that needs a test is reached over nothing but gates and arithmetic of phases.
+#[tactic(auto, using(crate::proofs::Passing::inside_passed))]
 fn is_inside(mut code: &[Instr]) -> bool
     ensures { result ≡ is_inside code.entry.now }
 {
@@ -273,7 +134,7 @@ fn is_inside(mut code: &[Instr]) -> bool
 }
 
 /// The instruction with that number isn't inside.
-#[tactic(auto, using(crate::proofs::Differing::nothing_inside))]
+#[tactic(auto, using(crate::proofs::Passing::nothing_inside))]
 fn is_outside(code: &[Instr], number: usize) -> bool
     ensures { result ≡ stays_outside code.now (Some number) }
 {
@@ -294,9 +155,17 @@ fn stays_outside(code: &[Instr], instruction: &Instr) -> bool
 }
 
 /// No jump goes to an instruction behind a test and not behind all that it is for.
-pub fn jumps_stay_outside(code: &[Instr]) -> bool
+fn jumps_stay_outside(code: &[Instr]) -> bool
     ensures { result ≡ jumps_stay_outside code.now }
 {
     code.iter()
         .all(|instruction| stays_outside(code, instruction))
+}
+
+/// Each primitive with a reference in a work cell stands behind a test of its references, and no jump goes in between.
+#[tactic(auto, using(crate::proofs::Agreeing::jumps_decide, crate::proofs::Agreeing::tests_decide))]
+pub fn all_tested(code: &[Instr]) -> bool
+    ensures { result ≡ all_tested code.now }
+{
+    all_have_tests(code) && jumps_stay_outside(code)
 }

@@ -2,9 +2,9 @@
 
 ghost use Rattle.std.specs.Prelude.{◌≡◌, Some};
 ghost use Rattle.std.specs.Option.{option_copied};
-ghost use Rattle.qt_code.specs.Jumps.{ends_well, is_tick, jump_fits, jumps_fit, may_go};
+ghost use Rattle.qt_code_rules.specs.Jumps.{ends_well, is_tick, jump_fits, jumps_fit, may_go};
 
-use crate::instruction::Instr;
+use qt_instructions::instruction::Instr;
 use sqlite_items::at;
 
 /// The last instruction is an end or a jump.

@@ -1,18 +1,22 @@
 //! References to qubits and angles.
 
-ghost use Rattle.std.specs.Prelude.{◌≡◌};
+ghost use Rattle.std.specs.Prelude.{◌≡◌, nat_eq};
+ghost use Rattle.std.specs.Cmp.{partial_equiv_from_equiv};
+ghost use Rattle.std.specs.Cmp.Lexicographic.{lists_equiv, nat_list_eq_equiv, pointwise};
+ghost use Rattle.qt_instructions.specs.contracts.reference.QubitRefEq.TheImpl.Laws as references;
+ghost use Rattle.qt_instructions.specs.contracts.reference.QubitRefPartialEq.TheImpl as reference;
 
 use std::marker::Model;
 
 /// A qubit: by its number, or by the work cell that holds its number.
-#[derive(Clone, Copy)]
+#[derive(Clone, Copy, PartialEq, Eq)]
 pub enum QubitRef {
     At(u8),
     Work(u32),
 }
 
 /// An angle of a primitive: a number of π/4, or the phase that a work cell holds; the flag says negated.
-#[derive(Clone, Copy)]
+#[derive(Clone, Copy, PartialEq, Eq)]
 pub enum AngleRef {
     Eighth(u8),
     Work(u32, bool),
@@ -26,11 +30,25 @@ pub struct Refs {
 
 impl Model for Refs {
     ghost use Rattle.std.specs.Prelude.{List};
-    ghost use Rattle.qt_code.specs.declared.reference.QubitRef.{QubitRef};
+    ghost use Rattle.qt_instructions.specs.declared.reference.QubitRef.{QubitRef};
 
     ghost Value = { List QubitRef };
 
     ghost view = { λ refs. refs.references.items };
+}
+
+impl PartialEq for Refs {
+    ghost eq = { pointwise (reference.ghosts).eq };
+
+    ghost laws = { partial_equiv_from_equiv (lists_equiv references.laws-law) };
+
+    fn eq(&self, other: &Refs) -> bool {
+        self.references == other.references
+    }
+}
+
+impl Eq for Refs {
+    ghost laws = { lists_equiv references.laws-law };
 }
 
 impl Refs {
@@ -61,6 +79,20 @@ impl Model for Qubits {
     ghost Value = { List ℕ };
 
     ghost view = { λ qubits. qubits.numbers.items };
+}
+
+impl PartialEq for Qubits {
+    ghost eq = { pointwise nat_eq };
+
+    ghost laws = { partial_equiv_from_equiv nat_list_eq_equiv };
+
+    fn eq(&self, other: &Qubits) -> bool {
+        self.numbers == other.numbers
+    }
+}
+
+impl Eq for Qubits {
+    ghost laws = { nat_list_eq_equiv };
 }
 
 impl Qubits {

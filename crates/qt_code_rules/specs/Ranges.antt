@@ -8,26 +8,26 @@ use Rattle.qt_value.specs.OpTypes.{result_type, unary_result_type}
 use Rattle.qt_value.specs.Types.{has_size, is_whole}
 use Rattle.qt_value.specs.declared.types.ValueType.{ValueType}
 use Rattle.qt_value.specs.declared.types.ValueType.TheVariants as kind
-use Rattle.qt_code.specs.declared.ranges.Sizes.{Sizes}
-use Rattle.qt_code.specs.declared.reference.QubitRef.{QubitRef}
-use Rattle.qt_code.specs.declared.reference.QubitRef.TheVariants as qubit
-use Rattle.qt_code.specs.declared.reference.AngleRef.{AngleRef}
-use Rattle.qt_code.specs.declared.reference.AngleRef.TheVariants as angle
-use Rattle.qt_code.specs.declared.primitive.Primitive.{Primitive}
-use Rattle.qt_code.specs.declared.primitive.Primitive.TheVariants as primitive
-use Rattle.qt_code.specs.declared.angle.AngleArg.{AngleArg}
-use Rattle.qt_code.specs.declared.angle.AngleArg.TheVariants as argument
-use Rattle.qt_code.specs.declared.angle.AngleStep.{AngleStep}
-use Rattle.qt_code.specs.declared.angle.AngleStep.TheVariants as step
-use Rattle.qt_code.specs.declared.angle.AngleOperation.{AngleOperation}
-use Rattle.qt_code.specs.declared.angle.AngleOperation.TheVariants as phase
-use Rattle.qt_code.specs.declared.instruction.Operand.{Operand}
-use Rattle.qt_code.specs.declared.instruction.Operation.{Operation}
-use Rattle.qt_code.specs.declared.instruction.Operation.TheVariants as operation
-use Rattle.qt_code.specs.declared.instruction.Store.{Store}
-use Rattle.qt_code.specs.declared.instruction.Store.TheVariants as store
-use Rattle.qt_code.specs.declared.instruction.Instr.{Instr}
-use Rattle.qt_code.specs.declared.instruction.Instr.TheVariants as instr
+use Rattle.qt_code_rules.specs.declared.ranges.Sizes.{Sizes}
+use Rattle.qt_instructions.specs.declared.reference.QubitRef.{QubitRef}
+use Rattle.qt_instructions.specs.declared.reference.QubitRef.TheVariants as qubit
+use Rattle.qt_instructions.specs.declared.reference.AngleRef.{AngleRef}
+use Rattle.qt_instructions.specs.declared.reference.AngleRef.TheVariants as angle
+use Rattle.qt_instructions.specs.declared.primitive.Primitive.{Primitive}
+use Rattle.qt_instructions.specs.declared.primitive.Primitive.TheVariants as primitive
+use Rattle.qt_instructions.specs.declared.angle.AngleArg.{AngleArg}
+use Rattle.qt_instructions.specs.declared.angle.AngleArg.TheVariants as argument
+use Rattle.qt_instructions.specs.declared.angle.AngleStep.{AngleStep}
+use Rattle.qt_instructions.specs.declared.angle.AngleStep.TheVariants as step
+use Rattle.qt_instructions.specs.declared.angle.AngleOperation.{AngleOperation}
+use Rattle.qt_instructions.specs.declared.angle.AngleOperation.TheVariants as phase
+use Rattle.qt_instructions.specs.declared.instruction.Operand.{Operand}
+use Rattle.qt_instructions.specs.declared.instruction.Operation.{Operation}
+use Rattle.qt_instructions.specs.declared.instruction.Operation.TheVariants as operation
+use Rattle.qt_instructions.specs.declared.instruction.Store.{Store}
+use Rattle.qt_instructions.specs.declared.instruction.Store.TheVariants as store
+use Rattle.qt_instructions.specs.declared.instruction.Instr.{Instr}
+use Rattle.qt_instructions.specs.declared.instruction.Instr.TheVariants as instr
 
 -- ---- slots, cells, qubits
 

@@ -2,12 +2,12 @@
 
 ghost use Rattle.std.specs.Prelude.{◌≡◌};
 ghost use Rattle.std.specs.List.{list_all};
-ghost use Rattle.qt_code.specs.Ranges.{can_convert, is_angle};
+ghost use Rattle.qt_code_rules.specs.Ranges.{can_convert, is_angle};
 
-use crate::angle::{AngleArg, AngleOperation, AngleStep};
-use crate::instruction::{Instr, Operand, Operation, Store};
-use crate::primitive::Primitive;
-use crate::reference::{AngleRef, QubitRef};
+use qt_instructions::angle::{AngleArg, AngleOperation, AngleStep};
+use qt_instructions::instruction::{Instr, Operand, Operation, Store};
+use qt_instructions::primitive::Primitive;
+use qt_instructions::reference::{AngleRef, QubitRef};
 use qt_value::casts::cast;
 use qt_value::operators::{op_type, unary_type};
 use qt_value::types::ValueType;
@@ -39,8 +39,8 @@ fn is_angle(kind: ValueType) -> bool
 }
 
 impl Sizes {
-    ghost use Rattle.qt_code.specs.Ranges.{has_slot, has_slots, has_cell, has_qubit, has_reference, has_angle, has_primitive, has_operand, has_operation};
-    ghost use Rattle.qt_code.specs.Ranges.{has_conversion, has_argument, has_step, has_angle_operation, has_store, has_move, has_reckoning, has_effect, has_instruction};
+    ghost use Rattle.qt_code_rules.specs.Ranges.{has_slot, has_slots, has_cell, has_qubit, has_reference, has_angle, has_primitive, has_operand, has_operation};
+    ghost use Rattle.qt_code_rules.specs.Ranges.{has_conversion, has_argument, has_step, has_angle_operation, has_store, has_move, has_reckoning, has_effect, has_instruction};
 
     fn has_slot(self, slot: u32) -> bool
         ensures { result ≡ has_slot self slot }

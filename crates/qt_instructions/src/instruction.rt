@@ -1,6 +1,10 @@
 //! Instructions.
 
 ghost use Rattle.std.specs.Prelude.{◌≡◌};
+ghost use Rattle.std.specs.Cmp.{partial_equiv_from_equiv};
+ghost use Rattle.std.specs.Cmp.Lexicographic.{lists_equiv, pointwise};
+ghost use Rattle.qt_instructions.specs.contracts.instruction.InstrEq.TheImpl.Laws as instructions;
+ghost use Rattle.qt_instructions.specs.contracts.instruction.InstrPartialEq.TheImpl as instruction;
 
 use crate::angle::AngleOperation;
 use crate::primitive::Primitive;
@@ -10,14 +14,14 @@ use qt_value::types::ValueType;
 use std::marker::Model;
 
 /// A value in a work cell, with the type that it is read as: as many of the lowest bits of the cell as the type has.
-#[derive(Clone, Copy)]
+#[derive(Clone, Copy, PartialEq, Eq)]
 pub struct Operand {
     pub cell: u32,
     pub kind: ValueType,
 }
 
 /// An operator on values in work cells.
-#[derive(Clone, Copy)]
+#[derive(Clone, Copy, PartialEq, Eq)]
 pub enum Operation {
     Unary {
         operator: UnaryOp,
@@ -31,7 +35,7 @@ pub enum Operation {
 }
 
 /// Where an outcome goes: nowhere, or to the bit of a slot, whose place is fixed or in a work cell.
-#[derive(Clone, Copy)]
+#[derive(Clone, Copy, PartialEq, Eq)]
 pub enum Store {
     Nowhere,
     Bit { slot: u32, place: u8 },
@@ -40,7 +44,7 @@ pub enum Store {
 
 /// An instruction. `cell` is the work cell that it writes, where nothing else is said, and `first` and `count` are so many slots from the
 /// first on.
-#[derive(Drop)]
+#[derive(Drop, PartialEq, Eq)]
 pub enum Instr {
     /// Spends one unit of fuel.
     Tick,
@@ -145,7 +149,7 @@ pub enum Instr {
 }
 
 impl Instr {
-    ghost use Rattle.qt_code.specs.Jumps.{stops, target_of};
+    ghost use Rattle.qt_instructions.specs.Targets.{stops, target_of};
 
     /// Nothing follows it directly: it is an end or a jump.
     pub fn stops(&self) -> bool
@@ -174,11 +178,25 @@ pub struct Instrs {
 
 impl Model for Instrs {
     ghost use Rattle.std.specs.Prelude.{List};
-    ghost use Rattle.qt_code.specs.declared.instruction.Instr.{Instr};
+    ghost use Rattle.qt_instructions.specs.declared.instruction.Instr.{Instr};
 
     ghost Value = { List Instr };
 
     ghost view = { λ instrs. instrs.instructions.items };
+}
+
+impl PartialEq for Instrs {
+    ghost eq = { pointwise (instruction.ghosts).eq };
+
+    ghost laws = { partial_equiv_from_equiv (lists_equiv instructions.laws-law) };
+
+    fn eq(&self, other: &Instrs) -> bool {
+        self.instructions == other.instructions
+    }
+}
+
+impl Eq for Instrs {
+    ghost laws = { lists_equiv instructions.laws-law };
 }
 
 impl Instrs {

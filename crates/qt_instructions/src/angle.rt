@@ -3,14 +3,14 @@
 use crate::instruction::Operand;
 
 /// A phase: its units of π/2^32, or the work cell that holds them.
-#[derive(Clone, Copy)]
+#[derive(Clone, Copy, PartialEq, Eq)]
 pub enum AngleArg {
     Units(i64),
     Work(u32),
 }
 
 /// One operator of phase arithmetic, whose whole numbers are known.
-#[derive(Clone, Copy)]
+#[derive(Clone, Copy, PartialEq, Eq)]
 pub enum AngleStep {
     Add(AngleArg, AngleArg),
     Sub(AngleArg, AngleArg),
@@ -20,7 +20,7 @@ pub enum AngleStep {
 }
 
 /// What is reckoned into a work cell as a phase.
-#[derive(Clone, Copy)]
+#[derive(Clone, Copy, PartialEq, Eq)]
 pub enum AngleOperation {
     Step { step: AngleStep },
     /// The phase of a value of an angle type: of n bits with the number c, it is c · 2^(33 − n) units.

@@ -2,16 +2,11 @@
 -- and branching). A jump goes to an instruction, and back only to a Tick, so each way round spends a unit of fuel.
 use Rattle.std.specs.Prelude.{ℕ, ◌-◌, Bool, true, false, nat_lt, if◌then◌else◌, List, length, slice_get, Option, Some, None}
 use Rattle.std.specs.List.{list_all, range_with_len}
-use Rattle.qt_code.specs.declared.instruction.Instr.{Instr}
-use Rattle.qt_code.specs.declared.instruction.Instr.TheVariants as instr
+use Rattle.qt_instructions.specs.declared.instruction.Instr.{Instr}
+use Rattle.qt_instructions.specs.declared.instruction.Instr.TheVariants as instr
+use Rattle.qt_instructions.specs.Targets.{stops, target_of}
 
 -- ---- the end
-
--- nothing follows it directly
-abbrev pub stops : Instr → Bool
-stops (instr.Jump to) = true
-stops instr.End = true
-stops _ = false
 
 abbrev pub stops_there : Option Instr → Bool
 stops_there None = false
@@ -22,12 +17,6 @@ abbrev pub ends_well : List Instr → Bool
 ends_well code = stops_there (slice_get code (length code - 1))
 
 -- ---- jumps
-
--- the number of the instruction that it jumps to
-abbrev pub target_of : Instr → Option ℕ
-target_of (instr.Jump to) = Some to
-target_of (instr.JumpIf condition to) = Some to
-target_of _ = None
 
 abbrev pub is_tick : Option Instr → Bool
 is_tick (Some instr.Tick) = true

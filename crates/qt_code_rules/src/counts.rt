@@ -1,9 +1,9 @@
 //! How many there may be of what code has.
 
 ghost use Rattle.std.specs.Prelude.{◌≡◌};
-ghost use Rattle.qt_code.specs.Validity.{has_counts, has_few_cells, has_few_qubits};
+ghost use Rattle.qt_code_rules.specs.Counts.{has_counts, has_few_cells, has_few_qubits};
 
-use crate::parts::Parts;
+use qt_instructions::parts::Parts;
 use qt_ring::QUBITS;
 
 /// The most work cells that code may have.
@@ -26,6 +26,7 @@ pub fn has_counts(parts: &Parts) -> bool
         && parts.start.items().len() == parts.slots as usize
 }
 
+/// It has as many work cells as any program of an accepted size needs, at the most.
 pub fn has_few_cells(parts: &Parts) -> bool
     ensures { result ≡ has_few_cells parts.now }
 {

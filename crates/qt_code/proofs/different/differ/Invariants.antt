@@ -1,6 +1,6 @@
 use Rattle.std.proofs.Common.{◌≡◌, length}
-use Rattle.qt_code.specs.Tested.{differ}
-use Rattle.qt_code.proofs.tested.differ.Given as goal
+use Rattle.qt_code.specs.Different.{differ}
+use Rattle.qt_code.proofs.different.differ.Given as goal
 
 abbrev pub invariant-references : goal.invariant-references
 invariant-references l = differ l.references ≡ differ l.fn.references

@@ -1,6 +1,12 @@
 //! The parts of flat code.
 
-ghost use Rattle.std.specs.Prelude.{◌≡◌};
+ghost use Rattle.std.specs.Prelude.{◌≡◌, nat_eq};
+ghost use Rattle.std.specs.Cmp.{and_equiv, nat_eq_equiv, on_equiv, partial_equiv_from_equiv};
+ghost use Rattle.std.specs.Cmp.Lexicographic.{lists_equiv, nat_list_eq_equiv, pointwise};
+ghost use Rattle.qt_tree.specs.contracts.place.PlaceEq.TheImpl.Laws as places;
+ghost use Rattle.qt_tree.specs.contracts.place.PlacePartialEq.TheImpl as place;
+ghost use Rattle.qt_value.specs.contracts.types.ValueTypeEq.TheImpl.Laws as kinds;
+ghost use Rattle.qt_instructions.specs.Fields.{same_field};
 
 use crate::instruction::Instrs;
 use qt_tree::label::Label;
@@ -22,6 +28,20 @@ impl Model for Places {
     ghost Value = { List Place };
 
     ghost view = { λ places. places.places.items };
+}
+
+impl PartialEq for Places {
+    ghost eq = { pointwise (place.ghosts).eq };
+
+    ghost laws = { partial_equiv_from_equiv (lists_equiv places.laws-law) };
+
+    fn eq(&self, other: &Places) -> bool {
+        self.places == other.places
+    }
+}
+
+impl Eq for Places {
+    ghost laws = { lists_equiv places.laws-law };
 }
 
 impl Places {
@@ -54,6 +74,20 @@ impl Model for Slots {
     ghost view = { λ slots. slots.values.items };
 }
 
+impl PartialEq for Slots {
+    ghost eq = { pointwise nat_eq };
+
+    ghost laws = { partial_equiv_from_equiv nat_list_eq_equiv };
+
+    fn eq(&self, other: &Slots) -> bool {
+        self.values == other.values
+    }
+}
+
+impl Eq for Slots {
+    ghost laws = { nat_list_eq_equiv };
+}
+
 impl Slots {
     /// Takes the list over.
     pub fn from_vec(values: Vec<u64>) -> Slots
@@ -79,6 +113,24 @@ pub struct Field {
     pub lengths: Lengths,
 }
 
+impl PartialEq for Field {
+    ghost eq = { same_field };
+
+    ghost laws = { partial_equiv_from_equiv (and_equiv (on_equiv (λ f. f.name) nat_list_eq_equiv) (and_equiv (on_equiv (λ f. f.kind) kinds.laws-law)
+        (and_equiv (on_equiv (λ f. f.slot) nat_eq_equiv) (on_equiv (λ f. f.lengths) nat_list_eq_equiv)))) };
+
+    fn eq(&self, other: &Field) -> bool {
+        self.name == other.name
+            && (self.kind == other.kind
+                && (self.slot == other.slot && self.lengths.items() == other.lengths.items()))
+    }
+}
+
+impl Eq for Field {
+    ghost laws = { and_equiv (on_equiv (λ f. f.name) nat_list_eq_equiv) (and_equiv (on_equiv (λ f. f.kind) kinds.laws-law)
+        (and_equiv (on_equiv (λ f. f.slot) nat_eq_equiv) (on_equiv (λ f. f.lengths) nat_list_eq_equiv))) };
+}
+
 /// The variables whose values are told at the end, in order.
 #[derive(Drop)]
 pub struct Layout {
@@ -87,11 +139,30 @@ pub struct Layout {
 
 impl Model for Layout {
     ghost use Rattle.std.specs.Prelude.{List};
-    ghost use Rattle.qt_code.specs.declared.parts.Field.{Field};
+    ghost use Rattle.qt_instructions.specs.declared.parts.Field.{Field};
 
     ghost Value = { List Field };
 
     ghost view = { λ layout. layout.fields.items };
+}
+
+impl PartialEq for Layout {
+    ghost use Rattle.qt_instructions.specs.contracts.parts.FieldEq.TheImpl.Laws as fields;
+    ghost use Rattle.qt_instructions.specs.contracts.parts.FieldPartialEq.TheImpl as field;
+
+    ghost eq = { pointwise (field.ghosts).eq };
+
+    ghost laws = { partial_equiv_from_equiv (lists_equiv fields.laws-law) };
+
+    fn eq(&self, other: &Layout) -> bool {
+        self.fields == other.fields
+    }
+}
+
+impl Eq for Layout {
+    ghost use Rattle.qt_instructions.specs.contracts.parts.FieldEq.TheImpl.Laws as fields;
+
+    ghost laws = { lists_equiv fields.laws-law };
 }
 
 impl Layout {
@@ -112,7 +183,7 @@ impl Layout {
 
 /// What flat code is made of: the instructions and the place in the text of each; how many qubits, slots and work cells they use; the
 /// values of the slots at the beginning; the variables that are told at the end; and the place behind the last character of the main text.
-#[derive(Drop)]
+#[derive(Drop, PartialEq, Eq)]
 pub struct Parts {
     pub instructions: Instrs,
     pub places: Places,
