@@ -1,16 +1,15 @@
 -- The two passes decide the rule: each primitive with a reference in a work cell stands behind its test, and no jump lands in between.
-use Rattle.std.proofs.Common.{◌≡◌, ℕ, zero, suc, ◌+◌, ◌-◌, ◌<◌, ◌≤◌, Bool, true, false, not, ◌&&◌, ◌||◌, nat_le, nat_lt, Option, Some, None, List, [], ◌∷◌, length, slice_get, drop, refl, sym, ap, subst, ◌∙◌, inl, inr, arith}
+use Rattle.std.proofs.Common.{◌≡◌, ℕ, ◌+◌, ◌-◌, ◌<◌, ◌≤◌, Bool, true, false, not, ◌&&◌, ◌||◌, nat_le, nat_lt, Option, Some, None, List, [], ◌∷◌, length, slice_get, drop, refl, sym, ap, subst, ◌∙◌, inl, inr, arith}
 use Rattle.std.proofs.lemmas.Bool.{false≢true, le-leb, leb-true, ltb-true, ltb-false}
 use Rattle.std.proofs.lemmas.Bool.Decides.{same_from_decides}
 use Rattle.std.specs.List.{list_all, list_any, range_with_len}
-use Rattle.std.specs.Prelude.{◌⊎◌}
 use Rattle.qt_ring.proofs.RingLaws.{and_left, and_right}
 use Rattle.qt_instructions.specs.declared.instruction.Instr.{Instr}
 use Rattle.qt_instructions.specs.Targets.{target_of}
 use Rattle.qt_code.specs.Passes.{all_have_tests, is_inside, jumps_stay_outside, stays_outside}
 use Rattle.qt_code.specs.Tested.{all_tested, has_jump_between, is_between, is_test_for, is_test_of, is_tested_at, keeps_tested, needs_test, passes, some_passes}
 use Rattle.qt_code.proofs.Numbered.{both, one_of, first_of, second_of, not_true, not_false, told, refuted, never_both, all_told, all_shown, some_told, some_shown, passed_within, get_dropped}
-use Rattle.qt_code.proofs.Passing.{IsTestFor, AllHaveTests, IsInside, tests_keep_nothing, test_told, test_shown, tests_told, tests_shown, is_inside_told, is_inside_shown}
+use Rattle.qt_code.proofs.Passing.{IsTestFor, tests_keep_nothing, test_told, test_shown, tests_told, tests_shown, is_inside_told, is_inside_shown}
 
 -- ---- behind a jump
 

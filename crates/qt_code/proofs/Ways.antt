@@ -1,7 +1,7 @@
 -- In valid code each jump goes ahead to an instruction, or back to a Tick.
-use Rattle.std.proofs.Common.{◌≡◌, ℕ, zero, suc, ◌+◌, ◌^◌, ◌<◌, Bool, true, false, ◌&&◌, nat_eq, nat_lt, if◌then◌else◌, Option, Some, None, List, [], ◌∷◌, length, slice_get, refl, sym, ap, subst, ◌∙◌, arith, zero-add}
+use Rattle.std.proofs.Common.{◌≡◌, ℕ, zero, suc, ◌^◌, ◌<◌, Bool, true, false, ◌&&◌, nat_eq, nat_lt, if◌then◌else◌, Option, Some, None, List, [], ◌∷◌, length, slice_get, refl, sym, ap, ◌∙◌, arith}
 use Rattle.std.proofs.lemmas.Bool.{false≢true, eqb-true, ltb-true, ltb-false}
-use Rattle.std.specs.List.{list_all, range_with_len, zip}
+use Rattle.std.specs.List.{zip}
 use Rattle.qt_tree.specs.declared.place.Place.{Place}
 use Rattle.qt_ring.proofs.RingLaws.{and_left, and_right}
 use Rattle.qt_instructions.specs.declared.instruction.Instr.{Instr}
