@@ -1,5 +1,5 @@
 -- A page as far as it is written, for the contracts of what puts lexemes on it.
-use Rattle.std.specs.Prelude.{ℕ, List, [], ◌∷◌, ◌++◌, Option, Some, None}
+use Rattle.std.specs.Prelude.{◌≡◌, ℕ, List, [], ◌∷◌, ◌++◌, Option, Some, None, IsFalse}
 use Rattle.std.specs.String.{string_bytes}
 use Rattle.qt_lexemes.specs.declared.role.Role.{Role}
 use Rattle.qt_lexemes.specs.declared.page.Page.{Page}
@@ -28,3 +28,11 @@ begun sheet margin = record { text = sheet.text ++ margin; last = None }
 -- the line ends
 unfoldable pub ended : Sheet → Sheet
 ended sheet = record { text = sheet.text ++ 10 ∷ []; last = None }
+
+-- nothing that was put on the page is wanting
+unfoldable pub IsKept : Page → Type 0
+IsKept page = IsFalse page.lost
+
+-- A step on a page: a page that is kept after it was kept before, and the step was made.
+abbrev pub Makes : (Sheet → Sheet) → Page → Page → Type 0
+Makes step before after = IsKept after → IsKept before × (sheet_of after ≡ step (sheet_of before))

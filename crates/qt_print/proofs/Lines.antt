@@ -16,8 +16,9 @@ use Rattle.qt_tree.specs.declared.statement.StatementForm.TheVariants as s
 use Rattle.qt_tree.specs.declared.statement.StatementForm.TheFolds.{fold_out-Statement}
 use Rattle.qt_lexemes.specs.Lexemes.{Lexeme, semicolon}
 use Rattle.qt_print.specs.Statements.{Line, line, indented, all_lines, sentence, block, two_blocks, body_start, body_end, else_lexeme, form_step, statement_step, form_lines, statement_lines, declaration_lexemes, register_lexemes, constant_lexemes, alias_lexemes, assignment_lexemes, compound_lexemes, measurement_lexemes, reset_lexemes, barrier_lexemes, call_lexemes, subroutine_lexemes, condition_lexemes, for_lexemes, single_lexemes, return_lexemes}
-use Rattle.qt_lexemes.specs.Page.{Sheet, put_on, begun, ended}
-use Rattle.qt_print.specs.Page.{puts, put_sentence, put_line, put_lines, put_body, put_block, put_if, each_lines}
+use Rattle.qt_lexemes.specs.Page.{Sheet, IsKept, Makes, sheet_of, put_on, begun, ended}
+use Rattle.qt_lexemes.specs.declared.page.Page.{Page}
+use Rattle.qt_print.specs.Page.{Puts, PutsLines, puts, put_sentence, put_line, put_lines, put_body, put_block, put_if, each_lines}
 use Rattle.qt_print.specs.Text.{margin}
 use Rattle.qt_print.proofs.Puts.{puts_both}
 use Rattle.qt_print.proofs.Forms.{declaration_lines, register_lines, constant_lines, alias_lines, assignment_lines, compound_lines, measurement_lines, reset_lines, barrier_lines, gate_lines, subroutine_lines, break_lines, continue_lines, return_lines, end_lines, while_lines, for_lines, if_lines, if_else_lines}
@@ -66,13 +67,23 @@ two_blocks_put sheet before head parts other =
     ∙ (ap (λ t. put_lines t before (block (body_end ∷ else_lexeme ∷ []) other)) (opened sheet before head parts)
     ∙ block_put (put_lines (ended (put_on (puts (begun sheet before) head) body_start)) (before ++ codes "  ") (all_lines parts)) before (body_end ∷ else_lexeme ∷ []) other))
 
--- what is put of all statements up to one, and of the rest
+-- what of lines is still to be put, where a part of them stands on the page
+abbrev pub LinesLeft : List ℕ → Page → List Line → Page → List Line → Type 0
+LinesLeft before start whole page rest = IsKept page → IsKept start × (put_lines (sheet_of page) before rest ≡ put_lines (sheet_of start) before whole)
+
+-- a turn of a loop that puts the lines of parts one after another
 module _ {A : Type 0} (lines : A → List Line) where
-  pub lines_turn : (s s' : Sheet) (before : List ℕ) (xs : List A) (i : ℕ) (x : A) → i < length xs → x ≡ get_or xs i x → s' ≡ put_lines s before (lines x) → put_lines s' before (all_lines (map lines (drop (i + 1) xs))) ≡ put_lines s before (all_lines (map lines (drop i xs)))
-  lines_turn s s' before xs i x lt e h =
+  pub lines_turn : (before : List ℕ) (start page after : Page) (whole : List Line) (xs : List A) (i : ℕ) (x : A) → i < length xs → x ≡ get_or xs i x → Makes (λ sheet. put_lines sheet before (lines x)) page after
+      → LinesLeft before start whole page (all_lines (map lines (drop i xs))) → LinesLeft before start whole after (all_lines (map lines (drop (i + 1) xs)))
+  lines_turn before start page after whole xs i x lt e put left kept =
       let drops : map lines (drop i xs) ≡ lines x ∷ map lines (drop (i + 1) xs) = rw (add-one, drop-cons xs i x) (ap (λ t. lines t ∷ map lines (drop (suc i) xs)) (sym e)) in
-      ap (λ t. put_lines t before (all_lines (map lines (drop (i + 1) xs)))) h
-      ∙ (sym (lines_both s before (lines x) (all_lines (map lines (drop (i + 1) xs)))) ∙ ap (λ t. put_lines s before (all_lines t)) (sym drops))
+      let rest = all_lines (map lines (drop (i + 1) xs)) in
+      let (kept_page, put_is) = put kept in
+      let (kept_start, left_is) = left kept_page in (
+        kept_start,
+        ap (λ t. put_lines t before rest) put_is
+            ∙ (sym (lines_both (sheet_of page) before (lines x) rest) ∙ (ap (λ t. put_lines (sheet_of page) before (all_lines t)) (sym drops) ∙ left_is)),
+      )
 
 pub statement_is : (statement : Statement) → statement_lines statement ≡ form_lines (out-Statement statement).form
 statement_is statement = fold_out-Statement (List Line) (List Line) form_step statement_step statement
@@ -139,18 +150,29 @@ module _ (sheet : Sheet) (before : List ℕ) where
 
 pub ruleset forms = (declaration_put, register_put, constant_put, alias_put, assignment_put, compound_put, measurement_put, reset_put, barrier_put, gate_put, subroutine_put, break_put, continue_put, return_put, end_put, if_put, while_put, for_put)
 
--- what was put where an `if` stood
-pub if_answer : (sheet start after : Sheet) (before : List ℕ) (form : StatementForm) (condition : Expr) (body passed : List Statement) (other : Option (List Statement)) → form ≡ s.If condition body other → start ≡ begun sheet before → passed ≡ body → after ≡ put_if start before (condition_lexemes (codes "if") condition) (map statement_lines passed) (each_lines other) → after ≡ put_lines sheet before (form_lines form)
-if_answer sheet start after before form condition body passed other e b p h =
-    h
-    ∙ (ap (λ t. put_if t before (condition_lexemes (codes "if") condition) (map statement_lines passed) (each_lines other)) b
-    ∙ (ap (λ t. put_if (begun sheet before) before (condition_lexemes (codes "if") condition) (map statement_lines t) (each_lines other)) p
-    ∙ (sym (if_put sheet before condition body other) ∙ ap (λ t. put_lines sheet before (form_lines t)) (sym e))))
+-- what is put where an `if` stands
+pub if_puts : (page start after : Page) (before : List ℕ) (form : StatementForm) (condition : Expr) (body : List Statement) (other : Option (List Statement)) → form ≡ s.If condition body other → Makes (λ sheet. begun sheet before) page start
+    → Makes (λ sheet. put_if sheet before (condition_lexemes (codes "if") condition) (map statement_lines body) (each_lines other)) start after → PutsLines page before (form_lines form) after
+if_puts page start after before form condition body other e begins puts_if kept =
+    let (kept_start, after_is) = puts_if kept in
+    let (kept_page, start_is) = begins kept_start in (
+      kept_page,
+      after_is
+          ∙ (ap (λ t. put_if t before (condition_lexemes (codes "if") condition) (map statement_lines body) (each_lines other)) start_is
+          ∙ (sym (if_put (sheet_of page) before condition body other) ∙ ap (λ t. put_lines (sheet_of page) before (form_lines t)) (sym e))),
+    )
 
--- what was put of a head and a body, step by step
-pub block_answer : (sheet start headed bodied after : Sheet) (before : List ℕ) (head : List Lexeme) (parts : List (List Line)) → start ≡ begun sheet before → headed ≡ puts start head → bodied ≡ put_body headed before parts → after ≡ ended bodied → after ≡ put_lines sheet before (block head parts)
-block_answer sheet start headed bodied after before head parts b h p e =
-    e
-    ∙ (ap ended p
-    ∙ (ap (λ t. ended (put_body t before parts)) h
-    ∙ (ap (λ t. ended (put_body (puts t head) before parts)) b ∙ sym (block_put sheet before head parts))))
+-- what is put of a head and a body, step by step
+pub block_puts : (page start headed bodied after : Page) (before : List ℕ) (head : List Lexeme) (parts : List (List Line)) → Makes (λ sheet. begun sheet before) page start → Puts start head headed → Makes (λ sheet. put_body sheet before parts) headed bodied
+    → Makes ended bodied after → PutsLines page before (block head parts) after
+block_puts page start headed bodied after before head parts begins puts_head puts_body ends kept =
+    let (kept_bodied, after_is) = ends kept in
+    let (kept_headed, bodied_is) = puts_body kept_bodied in
+    let (kept_start, headed_is) = puts_head kept_headed in
+    let (kept_page, start_is) = begins kept_start in (
+      kept_page,
+      after_is
+          ∙ (ap ended bodied_is
+          ∙ (ap (λ t. ended (put_body t before parts)) headed_is
+          ∙ (ap (λ t. ended (put_body (puts t head) before parts)) start_is ∙ sym (block_put (sheet_of page) before head parts)))),
+    )

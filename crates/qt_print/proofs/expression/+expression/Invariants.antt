@@ -1,20 +1,18 @@
-use Rattle.std.proofs.Common.{◌≡◌, ◌+◌, ◌*◌, map, drop}
+use Rattle.std.proofs.Common.{◌+◌, ◌*◌, map, drop}
 use Rattle.qt_lexemes.specs.Lexemes.{comma, joined, separated}
 use Rattle.qt_print.specs.Expressions.{expr_lexemes, index_lexemes, bracket_lexemes, brackets_lexemes, list_lexemes}
-use Rattle.qt_lexemes.specs.Page.{sheet_of}
-use Rattle.qt_print.specs.Page.{puts}
-use Rattle.qt_print.proofs.Puts.{still_separated}
+use Rattle.qt_print.proofs.Puts.{Left, still_separated}
 use Rattle.qt_print.proofs.expression.+expression.Given as goal
 
 -- what is put and the parts still to come are the whole
 abbrev pub invariant-put_list-loop-expr : goal.invariant-put_list-loop-expr
-invariant-put_list-loop-expr l = puts (sheet_of l.page) (still_separated l.first comma (map expr_lexemes (drop l.expr-index l.all))) ≡ puts (sheet_of l.fn.page) (list_lexemes l.all)
+invariant-put_list-loop-expr l = Left l.fn.page (list_lexemes l.all) l.page (still_separated l.first comma (map expr_lexemes (drop l.expr-index l.all)))
 
 abbrev pub invariant-put_indexes-loop-index : goal.invariant-put_indexes-loop-index
-invariant-put_indexes-loop-index l = puts (sheet_of l.page) (still_separated l.first comma (map index_lexemes (drop l.index-index l.indexes))) ≡ puts (sheet_of l.fn.page) (separated comma (map index_lexemes l.indexes))
+invariant-put_indexes-loop-index l = Left l.fn.page (separated comma (map index_lexemes l.indexes)) l.page (still_separated l.first comma (map index_lexemes (drop l.index-index l.indexes)))
 
 abbrev pub invariant-put_brackets-loop-indexes : goal.invariant-put_brackets-loop-indexes
-invariant-put_brackets-loop-indexes l = puts (sheet_of l.page) (joined (map bracket_lexemes (drop l.indexes-index l.brackets))) ≡ puts (sheet_of l.fn.page) (brackets_lexemes l.brackets)
+invariant-put_brackets-loop-indexes l = Left l.fn.page (brackets_lexemes l.brackets) l.page (joined (map bracket_lexemes (drop l.indexes-index l.brackets)))
 
 -- the depth of what is put, and within a depth who calls whom
 abbrev pub decreases-put_expr : goal.decreases-put_expr

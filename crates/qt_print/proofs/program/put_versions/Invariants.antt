@@ -1,12 +1,9 @@
-use Rattle.std.proofs.Common.{◌≡◌, map, drop, []}
+use Rattle.std.proofs.Common.{map, drop, []}
 use Rattle.qt_print.specs.Statements.{all_lines}
 use Rattle.qt_print.specs.Programs.{version_lines}
-use Rattle.qt_lexemes.specs.Page.{sheet_of}
-use Rattle.qt_print.specs.Page.{put_lines}
+use Rattle.qt_print.proofs.Lines.{LinesLeft}
 use Rattle.qt_print.proofs.program.put_versions.Given as goal
 
 -- what is put and what is still to come are the whole
 abbrev pub invariant-loop-version : goal.invariant-loop-version
-invariant-loop-version l =
-    put_lines (sheet_of l.page) [] (all_lines (map version_lines (drop l.version-index l.versions)))
-    ≡ put_lines (sheet_of l.fn.page) [] (all_lines (map version_lines l.versions))
+invariant-loop-version l = LinesLeft [] l.fn.page (all_lines (map version_lines l.versions)) l.page (all_lines (map version_lines (drop l.version-index l.versions)))

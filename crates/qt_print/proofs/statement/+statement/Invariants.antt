@@ -1,17 +1,14 @@
-use Rattle.std.proofs.Common.{◌≡◌, ℕ, ◌+◌, ◌*◌, max, Option, Some, None, List, map, drop}
+use Rattle.std.proofs.Common.{ℕ, ◌+◌, ◌*◌, max, Option, Some, None, List, map, drop}
 use denote.Param.Weighed.{most}
 use Rattle.qt_tree.specs.declared.statement.Statement.{Statement, size-Statement}
 use Rattle.qt_tree.specs.declared.statement.StatementForm.{size-StatementForm}
 use Rattle.qt_print.specs.Statements.{all_lines, statement_lines}
-use Rattle.qt_lexemes.specs.Page.{sheet_of}
-use Rattle.qt_print.specs.Page.{put_lines}
+use Rattle.qt_print.proofs.Lines.{LinesLeft}
 use Rattle.qt_print.proofs.statement.+statement.Given as goal
 
 -- what is put and the statements still to come are the whole
 abbrev pub invariant-put_statements-loop-statement : goal.invariant-put_statements-loop-statement
-invariant-put_statements-loop-statement l =
-    put_lines (sheet_of l.page) l.margin (all_lines (map statement_lines (drop l.statement-index l.all)))
-    ≡ put_lines (sheet_of l.fn.page) l.margin (all_lines (map statement_lines l.all))
+invariant-put_statements-loop-statement l = LinesLeft l.margin l.fn.page (all_lines (map statement_lines l.all)) l.page (all_lines (map statement_lines (drop l.statement-index l.all)))
 
 -- the depth of what is put, and within a depth who calls whom
 abbrev pub size_of_other : Option (List Statement) → ℕ
