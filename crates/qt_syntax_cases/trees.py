@@ -1064,6 +1064,9 @@ TREES = [
     ("qubit[2] q; qreg r[2]; qubit s; qreg t;",
      " (Program [ ] [ (Qubit 0:1:1 (Whole 2) q) (QubitRegister 0:1:13 r (Whole 2)) (Qubit 0:1:24 none s)"
      " (QubitRegister 0:1:33 t none) ] 0:1:40)"),
+    ("\nif (!b) x q;\n",
+     " (Program [ ] [ (Statement 0:2:1 (If (Unary Not (Name b [ ]))"
+     " [ (Statement 0:2:9 (Gate (GateCall [ ] (Named x none) [ (Operand q none) ]))) ] none)) ] 0:3:1)"),
     ("input angle a; output bit b; include \"c\";",
      " (Program [ ] [ (Input 0:1:1 (Angle none) a) (Output 0:1:16 (Bit none) b) (Include 0:1:30 c) ] 0:1:42)"),
 ]

@@ -242,8 +242,7 @@ def outside():
     row("sure_sink", "", f'Ok(());Ok(());"{first + second}";')
 
 
-def trees():
-    row("tree", "", "0 1;Place { file: 0, line: 2, column: 1 };x;b;")
+def labels():
     row("labels", "θ_1 θ_2", "θ_1;true;false")
     row("lengths", "2 3", "2;3;")
     places = [(0, 1, 1), (0, 1, 2), (0, 2, 1), (0, 10, 1), (1, 1, 1), (1, 1, 9), (2, 1, 1)]
@@ -295,7 +294,7 @@ def all_terminals():
 
 def main():
     outside()
-    trees()
+    labels()
     tokens()
     all_terminals()
     ROWS.append(("paint x", "no row"))

@@ -1,4 +1,4 @@
-//! Cases of texts as a program: the fakes of the outside, trees, tokens and terminals.
+//! Cases of texts as a program: the fakes of the outside, labels, places and refusals, tokens and terminals.
 //!
 //! It reads rows from the standard input, one a line, and prints the answer to each as one line. A row is a call: a word, and what
 //! stands behind it, as in `lex a<<=1`, `terminals pi` and `sink 2 3`. In a text `\n`, `\r`, `\0` and `\\` are the characters that
@@ -7,9 +7,9 @@
 //! `text_cases.py` writes the rows, and from its own tables the answers that are wanted.
 #![tactic(auto)]
 
+mod labels;
 mod outside;
 mod tokens;
-mod trees;
 
 use qt_rows::answer::Answer;
 use qt_rows::cases::{Cases, answer_lines};
@@ -22,7 +22,7 @@ use std::process::ExitCode;
 #[derive(Drop)]
 struct TextCases;
 
-/// The answer of a call on shelves and sinks, or on trees.
+/// The answer of a call on shelves and sinks, or on labels.
 fn answer_values(alloc: Global, call: &str, row: &mut Row<'_>, answer: &mut Answer) {
     match call {
         "fault" => outside::fault(row, answer),
@@ -30,7 +30,7 @@ fn answer_values(alloc: Global, call: &str, row: &mut Row<'_>, answer: &mut Answ
         "sure_shelf" => outside::sure_shelf(alloc, row.rest, answer),
         "sink" => outside::sink(alloc, row, answer),
         "sure_sink" => outside::sure_sink(alloc, answer),
-        _ => trees::answer_trees(alloc, call, row, answer),
+        _ => labels::answer_labels(alloc, call, row, answer),
     }
 }
 

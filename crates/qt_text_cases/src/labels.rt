@@ -1,16 +1,13 @@
-//! Rows of trees, labels, places and refusals.
+//! Rows of labels, places and refusals.
 
 use qt_outside::faults::OutOfMemory;
 use qt_rows::answer::Answer;
 use qt_rows::row::Row;
-use qt_tree::expression::{Expr, PrefixOperator};
 use qt_tree::label::{Label, Setting};
 use qt_tree::lengths::Lengths;
 use qt_tree::place::Place;
-use qt_tree::program::{Item, Program};
 use qt_tree::refusal::{Cause, Feature, TextRefusal};
-use qt_tree::statement::{CalledGate, GateCall, Operand, Statement, StatementForm};
-use sqlite_items::{Boxed, Items};
+use sqlite_items::Boxed;
 use std::alloc::Global;
 
 const FEATURES: [Feature; 24] = [
@@ -62,142 +59,6 @@ fn place(line: u32, column: u32) -> Place {
         file: 0,
         line,
         column,
-    }
-}
-
-/// A list of one item.
-fn single<T: Drop>(alloc: Global, item: T) -> Result<Items<T>, OutOfMemory> {
-    let mut items = Items::new(alloc);
-    items.push(item)?;
-    Ok(items)
-}
-
-/// `!b`
-fn condition(alloc: Global) -> Result<Expr, OutOfMemory> {
-    let name = Label::new(alloc, "b")?;
-    let brackets = Items::new(alloc);
-    let operand = Boxed::new(alloc, Expr::Name { name, brackets })?;
-    Ok(Expr::Unary {
-        operator: PrefixOperator::Not,
-        operand,
-    })
-}
-
-/// `q`
-fn operands(alloc: Global) -> Result<Items<Operand>, OutOfMemory> {
-    let name = Label::new(alloc, "q")?;
-    single(alloc, Operand { name, index: None })
-}
-
-/// `x q;`
-fn body(alloc: Global) -> Result<Items<Statement>, OutOfMemory> {
-    let operands = operands(alloc)?;
-    let name = Label::new(alloc, "x")?;
-    let call = GateCall {
-        modifiers: Items::new(alloc),
-        gate: CalledGate::Named {
-            name,
-            arguments: None,
-        },
-        operands,
-    };
-    single(
-        alloc,
-        Statement {
-            place: place(2, 3),
-            form: StatementForm::Gate { call },
-        },
-    )
-}
-
-/// `if (!b) x q;`
-fn conditional(alloc: Global) -> Result<Items<Item>, OutOfMemory> {
-    let body = body(alloc)?;
-    let condition = condition(alloc)?;
-    let statement = Statement {
-        place: place(2, 1),
-        form: StatementForm::If {
-            condition,
-            body,
-            otherwise: None,
-        },
-    };
-    single(alloc, Item::Statement { statement })
-}
-
-/// A program of that statement alone.
-fn program(alloc: Global) -> Result<Program, OutOfMemory> {
-    let items = conditional(alloc)?;
-    Ok(Program {
-        versions: Items::new(alloc),
-        items,
-        end: place(3, 1),
-    })
-}
-
-/// The name that is called by the only gate call in the body of a condition.
-fn called_name(form: &StatementForm) -> Option<&Label> {
-    let StatementForm::If { body, .. } = form else {
-        return None;
-    };
-    let StatementForm::Gate { call } = &body.get(0)?.form else {
-        return None;
-    };
-    match &call.gate {
-        CalledGate::Named { name, .. } => Some(name),
-        CalledGate::GlobalPhase { .. } => None,
-    }
-}
-
-/// The name under the operator of a condition.
-fn tested_name(form: &StatementForm) -> Option<&Label> {
-    let StatementForm::If { condition, .. } = form else {
-        return None;
-    };
-    let Expr::Unary { operand, .. } = condition else {
-        return None;
-    };
-    match operand.get() {
-        Expr::Name { name, .. } => Some(name),
-        _ => None,
-    }
-}
-
-/// A name, or that there is none.
-fn name_told(name: Option<&Label>, answer: &mut Answer) {
-    match name {
-        Some(name) => answer.push_str(name.text()),
-        None => answer.push_str("none"),
-    }
-    answer.push_str(";");
-}
-
-/// The place of an item, and the names that its statement calls and tests.
-fn item_told(item: &Item, answer: &mut Answer) {
-    let at = item.place();
-    write!(answer, "{at:?};");
-    match item {
-        Item::Statement { statement } => {
-            name_told(called_name(&statement.form), answer);
-            name_told(tested_name(&statement.form), answer);
-        }
-        _ => answer.push_str("no statement;"),
-    }
-}
-
-fn program_told(program: &Program, answer: &mut Answer) {
-    let (versions, items) = (program.versions.len(), program.items.len());
-    write!(answer, "{versions} {items};");
-    for item in program.items.as_slice() {
-        item_told(item, answer);
-    }
-}
-
-/// `tree`: the program of one statement, told again.
-fn tree(alloc: Global, answer: &mut Answer) {
-    match program(alloc) {
-        Ok(program) => program_told(&program, answer),
-        Err(_) => answer.lose(),
     }
 }
 
@@ -303,10 +164,9 @@ fn refusals(alloc: Global, row: &mut Row<'_>, answer: &mut Answer) {
     }
 }
 
-/// The answer of a call on trees, labels, places or refusals.
-pub fn answer_trees(alloc: Global, call: &str, row: &mut Row<'_>, answer: &mut Answer) {
+/// The answer of a call on labels, places or refusals.
+pub fn answer_labels(alloc: Global, call: &str, row: &mut Row<'_>, answer: &mut Answer) {
     match call {
-        "tree" => tree(alloc, answer),
         "labels" => labels(alloc, row, answer),
         "lengths" => lengths(alloc, row.rest, answer),
         "order" => order(row, answer),
