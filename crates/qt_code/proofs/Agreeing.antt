@@ -89,7 +89,9 @@ tested_shown code at f =
           (some_shown (safe_test code at) 0 at s.test (omega arith) (omega (arith, before))
           (both (is_test_for code at s.test) (not (has_jump_between code at s.test)) (test_shown code at s.test s.is_test)
           (not_false (has_jump_between code at s.test) s.no_jump_between)))
-      | inr e ↦ first_of (not (passes needs_test code at)) (list_any (safe_test code at) (range_with_len 0 at)) (not_false (passes needs_test code at) e)
+      | inr e ↦
+          first_of (not (passes needs_test code at)) (list_any (safe_test code at) (range_with_len 0 at))
+          (not_false (passes needs_test code at) e)
     ]
 
 all_tested_told : (code : List Instr) → all_tested code ≡ true → AllSafe code code
@@ -139,7 +141,8 @@ stays code js j f (Some to) e =
     λ k b. sym (passes_dropped keeps_tested to code k) ∙ r.1.only k (omega arith) b in
     never_both (is_between s.test (to + at) (Some to)) (lands_between code to at s.test s.is_test only)
     (ap (is_between s.test (to + at)) (sym e)
-    ∙ none_first (is_between s.test (to + at) (target_of j)) (list_any (λ i. is_between s.test (to + at) (target_of i)) js) s.no_jump_between)))
+    ∙ none_first (is_between s.test (to + at) (target_of j)) (list_any (λ i. is_between s.test (to + at) (target_of i)) js)
+    s.no_jump_between)))
 
 all_stay : (code js : List Instr) → AllSafe code js → list_all (λ i. stays_outside code (target_of i)) js ≡ true
 all_stay code [] f = refl
@@ -148,7 +151,8 @@ all_stay code (j ∷ js) f =
     (all_stay code js (λ at h. let s = f at h in record {
       test = s.test;
       is_test = s.is_test;
-      no_jump_between = none_rest (is_between s.test at (target_of j)) (list_any (λ i. is_between s.test at (target_of i)) js) s.no_jump_between;
+      no_jump_between =
+          none_rest (is_between s.test at (target_of j)) (list_any (λ i. is_between s.test at (target_of i)) js) s.no_jump_between;
     }))
 
 -- ---- both
@@ -164,7 +168,8 @@ passes_told code e at h =
 
 passes_shown : (code : List Instr) → AllSafe code code → (all_have_tests code && jumps_stay_outside code) ≡ true
 passes_shown code f =
-    both (all_have_tests code) (jumps_stay_outside code) (tests_shown code (λ at h. let s = f at h in (s.test, s.is_test))) (all_stay code code f)
+    both (all_have_tests code) (jumps_stay_outside code) (tests_shown code (λ at h. let s = f at h in (s.test, s.is_test)))
+    (all_stay code code f)
 
 passes_decide : (code : List Instr) → (all_have_tests code && jumps_stay_outside code) ≡ all_tested code
 passes_decide code =

@@ -1,4 +1,5 @@
 pub mod Agreeing
+pub mod Conversions
 pub mod Differing
 mod Examples
 pub mod Numbered

@@ -214,7 +214,9 @@ has_test_shown code at f =
           let before = t.1.before in
           second_of (not (passes needs_test code at)) (list_any (is_test_for code at) (range_with_len 0 at))
           (some_shown (is_test_for code at) 0 at t.0 (omega arith) (omega (arith, before)) (test_shown code at t.0 t.1))
-      | inr e ↦ first_of (not (passes needs_test code at)) (list_any (is_test_for code at) (range_with_len 0 at)) (not_false (passes needs_test code at) e)
+      | inr e ↦
+          first_of (not (passes needs_test code at)) (list_any (is_test_for code at) (range_with_len 0 at))
+          (not_false (passes needs_test code at) e)
     ]
 
 pub tests_told : (code : List Instr) → all_have_tests code ≡ true → AllHaveTests code

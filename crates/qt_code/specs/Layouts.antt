@@ -5,9 +5,9 @@ use Rattle.std.specs.List.{list_all}
 use Rattle.qt_value.specs.Types.{has_size}
 use Rattle.qt_meaning.specs.Distribution.{element_count}
 use Rattle.qt_meaning.specs.Values.{slots_from}
-use Rattle.qt_code_rules.specs.declared.ranges.Sizes.{Sizes}
+use Rattle.qt_code_rules.specs.declared.sizes.Sizes.{Sizes}
 use Rattle.qt_instructions.specs.declared.parts.Field.{Field}
-use Rattle.qt_code_rules.specs.Ranges.{has_slots}
+use Rattle.qt_code_rules.specs.Sizes.{has_slots}
 
 -- a phase has no size, so none is told
 abbrev pub has_field : Sizes → Field → Bool

@@ -1,3 +1,4 @@
+pub mod Ranges
 pub mod Different
 pub mod Tested
 pub mod Passes
@@ -8,7 +9,7 @@ pub mod Tail
 pub mod Laws
 pub use Rattle.qt_code_rules.specs.Counts
 pub use Rattle.qt_code_rules.specs.Jumps
-pub use Rattle.qt_code_rules.specs.Ranges
 pub use Rattle.qt_code_rules.specs.References
+pub use Rattle.qt_code_rules.specs.Sizes
 pub use Rattle.qt_instructions.specs.Equality
 pub use Rattle.qt_instructions.specs.Targets

@@ -1,5 +1,5 @@
--- The rule on tested references in two parts, each decided by one pass over the code (flat code is this profile's; OpenQASM 3.0 live
--- specification, "Gates", applying gates): each primitive stands behind a test, and each jump lands where no primitive needs a test that stands
+-- The rule on tested references in two parts, each decided by itself (flat code is this profile's; OpenQASM 3.0 live specification, "Gates",
+-- applying gates): each primitive that needs a test stands behind one, and each jump lands where no primitive needs a test that stands
 -- before.
 use Rattle.std.specs.Prelude.{ℕ, Bool, true, not, ◌&&◌, ◌||◌, List, [], length, drop, Option, Some, None}
 use Rattle.std.specs.List.{list_all, list_any, range_with_len}

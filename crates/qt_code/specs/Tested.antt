@@ -1,6 +1,6 @@
--- Primitives on qubits that are known in the run only: their references were tested to differ (flat code is this profile's; OpenQASM 3.0 live
--- specification, "Gates", applying gates). A primitive with references in work cells stands behind a Distinct of all of them, with only gates
--- and arithmetic of phases in between, and no jump lands behind the Distinct and not behind the primitive.
+-- Primitives on qubits that are known in the run only: their references were tested to differ (flat code is this profile's; OpenQASM 3.0
+-- live specification, "Gates", applying gates). A primitive with references in work cells stands behind a Distinct of all of them, with
+-- only gates and arithmetic of phases in between, and no jump lands behind the Distinct and not behind the primitive.
 use Rattle.std.specs.Prelude.{ℕ, suc, ◌-◌, Bool, true, false, not, ◌&&◌, ◌||◌, nat_le, nat_lt, List, length, slice_get, Option, Some, None}
 use Rattle.std.specs.List.{list_all, list_any, range_with_len}
 use Rattle.qt_instructions.specs.declared.reference.QubitRef.{QubitRef}

@@ -1,12 +1,12 @@
 -- Which parts are valid flat code: nine rules (flat code is this profile's). Valid code goes on until a leaf from every start that fits.
 use Rattle.std.specs.Prelude.{Bool, ◌&&◌, IsTrue}
 use Rattle.std.specs.List.{list_all}
-use Rattle.qt_code_rules.specs.declared.ranges.Sizes.{Sizes}
+use Rattle.qt_code_rules.specs.declared.sizes.Sizes.{Sizes}
 use Rattle.qt_instructions.specs.declared.parts.Parts.{Parts}
 use Rattle.qt_code_rules.specs.Counts.{has_counts, has_few_cells, has_few_qubits}
 use Rattle.qt_code_rules.specs.Jumps.{ends_well, jumps_fit}
 use Rattle.qt_code.specs.Layouts.{has_layout}
-use Rattle.qt_code_rules.specs.Ranges.{has_instruction}
+use Rattle.qt_code.specs.Ranges.{has_instruction}
 use Rattle.qt_code.specs.Different.{has_different_qubits}
 use Rattle.qt_code.specs.Tested.{all_tested}
 

@@ -2,10 +2,10 @@
 
 ghost use Rattle.std.specs.Prelude.{◌≡◌, nat_le};
 ghost use Rattle.qt_meaning.specs.Distribution.{element_count};
-ghost use Rattle.qt_code_rules.specs.Ranges.{has_slots};
+ghost use Rattle.qt_code_rules.specs.Sizes.{has_slots};
 ghost use Rattle.qt_code.specs.Layouts.{has_field, has_layout};
 
-use qt_code_rules::ranges::Sizes;
+use qt_code_rules::sizes::Sizes;
 use qt_instructions::parts::Field;
 
 /// There is room for all elements of an array of those lengths. An array without dimensions has one element.

@@ -6,10 +6,11 @@ ghost use Rattle.qt_code.specs.Validity.{has_end, has_fixed_qubits, has_jumps, h
 
 use crate::different::have_different_qubits;
 use crate::layout::has_layout;
+use crate::ranges::has_instructions;
 use crate::tested::all_tested;
 use qt_code_rules::counts::{has_counts, has_few_cells, has_few_qubits};
 use qt_code_rules::jumps::{ends_well, jumps_fit};
-use qt_code_rules::ranges::Sizes;
+use qt_code_rules::sizes::Sizes;
 use qt_instructions::parts::Parts;
 
 fn sizes_of(parts: &Parts) -> Sizes
@@ -34,7 +35,7 @@ fn has_ways(parts: &Parts) -> bool
     ensures { result ≡ (has_end parts.now && has_jumps parts.now && has_ranges parts.now) }
 {
     let code = parts.instructions.items();
-    ends_well(code) && jumps_fit(code) && sizes_of(parts).has_instructions(code)
+    ends_well(code) && jumps_fit(code) && has_instructions(sizes_of(parts), code)
 }
 
 /// The rules on the qubits of primitives, and on what is told.

@@ -1,4 +1,4 @@
 pub mod Counts
 pub mod Jumps
-pub mod Ranges
 pub mod References
+pub mod Sizes

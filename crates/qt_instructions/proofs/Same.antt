@@ -1,5 +1,5 @@
 -- `==` on instructions and parts is true exactly where both are the same.
-use Rattle.std.proofs.Common.{◌≡◌, ℕ, ℤ, Bool, true, false, ◌&&◌, List, nat_eq, refl, sym, ap, subst, ◌∙◌}
+use Rattle.std.proofs.Common.{◌≡◌, ℕ, ℤ, Bool, true, false, ◌&&◌, List, nat_eq, refl, ap, subst, ◌∙◌}
 use mathlib.Core.Bool.{beq}
 use lib.Pointwise.{pointwise}
 use Rattle.std.proofs.lemmas.Bool.{false≢true}
@@ -96,7 +96,8 @@ of_two make {s} {t} f g a c b d h =
     let r = two_of (s a c) (t b d) h in
     ap (λ x. make x b) (f a c r.0) ∙ ap (make c) (g b d r.1)
 
-of_three : {A B C T : Type 0} (make : A → B → C → T) {s : A → A → Bool} {t : B → B → Bool} {u : C → C → Bool} → Sound A s → Sound B t → Sound C u
+of_three : {A B C T : Type 0} (make : A → B → C → T) {s : A → A → Bool} {t : B → B → Bool} {u : C → C → Bool}
+    → Sound A s → Sound B t → Sound C u
     → (a d : A) (b e : B) (c f : C) → (s a d && (t b e && u c f)) ≡ true → make a b c ≡ make d e f
 of_three make {s} {t} {u} f g h a d b e c k all =
     let r = two_of (s a d) (t b e && u c k) all in
@@ -175,12 +176,15 @@ same_angle _ _ h = absurd (false≢true h)
 
 same_primitive : Sound Primitive (primitive_test.ghosts).eq
 same_primitive (primitive.Turn a b c d e f) (primitive.Turn u v w x y z) h =
-    let r = two_of (pointwise (qubit_test.ghosts).eq a u) (pointwise (qubit_test.ghosts).eq b v && ((qubit_test.ghosts).eq c w && ((angle_test.ghosts).eq d x && ((angle_test.ghosts).eq e y && (angle_test.ghosts).eq f z)))) h in
-    let q = two_of (pointwise (qubit_test.ghosts).eq b v) ((qubit_test.ghosts).eq c w && ((angle_test.ghosts).eq d x && ((angle_test.ghosts).eq e y && (angle_test.ghosts).eq f z))) r.1 in
+    let angles = (angle_test.ghosts).eq d x && ((angle_test.ghosts).eq e y && (angle_test.ghosts).eq f z) in
+    let rest = (qubit_test.ghosts).eq c w && angles in
+    let r = two_of (pointwise (qubit_test.ghosts).eq a u) (pointwise (qubit_test.ghosts).eq b v && rest) h in
+    let q = two_of (pointwise (qubit_test.ghosts).eq b v) rest r.1 in
     ap (λ m. primitive.Turn m b c d e f) ((lists qubit_decided) a u r.0)
     ∙ ap (λ m. primitive.Turn u m c d e f) ((lists qubit_decided) b v q.0)
     ∙ of_four (primitive.Turn u v) same_qubit same_angle same_angle same_angle c w d x e y f z q.1
-same_primitive (primitive.Phase a b c) (primitive.Phase u v w) h = of_three primitive.Phase (lists qubit_decided) (lists qubit_decided) same_angle a u b v c w h
+same_primitive (primitive.Phase a b c) (primitive.Phase u v w) h =
+    of_three primitive.Phase (lists qubit_decided) (lists qubit_decided) same_angle a u b v c w h
 same_primitive _ _ h = absurd (false≢true h)
 
 same_argument : Sound AngleArg (argument_test.ghosts).eq
@@ -214,7 +218,8 @@ same_phase _ _ h = absurd (false≢true h)
 
 same_operation : Sound Operation (operation_test.ghosts).eq
 same_operation (operation.Unary a b) (operation.Unary u v) h = of_two operation.Unary same_unary same_operand a u b v h
-same_operation (operation.Binary a b c) (operation.Binary u v w) h = of_three operation.Binary same_op same_operand same_operand a u b v c w h
+same_operation (operation.Binary a b c) (operation.Binary u v w) h =
+    of_three operation.Binary same_op same_operand same_operand a u b v c w h
 same_operation _ _ h = absurd (false≢true h)
 
 same_store : Sound Store (store_test.ghosts).eq
@@ -234,7 +239,8 @@ same_instr (instr.BitGet a b c) (instr.BitGet u v w) h = of_three instr.BitGet n
 same_instr (instr.BitPut a b c) (instr.BitPut u v w) h = of_three instr.BitPut same_operand same_operand number a u b v c w h
 same_instr (instr.Apply a b) (instr.Apply u v) h = of_two instr.Apply number same_operation a u b v h
 same_instr (instr.Cast a b c) (instr.Cast u v w) h = of_three instr.Cast number same_operand same_kind a u b v c w h
-same_instr (instr.Turns a b c d) (instr.Turns u v w x) h = of_four instr.Turns number same_operand same_operand same_operand a u b v c w d x h
+same_instr (instr.Turns a b c d) (instr.Turns u v w x) h =
+    of_four instr.Turns number same_operand same_operand same_operand a u b v c w d x h
 same_instr (instr.AngleOp a b) (instr.AngleOp u v) h = of_two instr.AngleOp number same_phase a u b v h
 same_instr (instr.Qubit a b c) (instr.Qubit u v w) h = of_three instr.Qubit number numbers same_operand a u b v c w h
 same_instr (instr.Distinct a) (instr.Distinct u) h = ap instr.Distinct ((lists qubit_decided) a u h)

@@ -1,4 +1,5 @@
--- Where an instruction leads (flat code is this profile's; OpenQASM 3.0 live specification, "Classical instructions", looping and branching).
+-- Where an instruction leads (flat code is this profile's; OpenQASM 3.0 live specification, "Classical instructions", looping and
+-- branching).
 use Rattle.std.specs.Prelude.{ℕ, Bool, true, false, Option, Some, None}
 use Rattle.qt_instructions.specs.declared.instruction.Instr.{Instr}
 use Rattle.qt_instructions.specs.declared.instruction.Instr.TheVariants as instr

@@ -1,12 +1,11 @@
 //! The parts of flat code.
 
 ghost use Rattle.std.specs.Prelude.{◌≡◌, nat_eq};
-ghost use Rattle.std.specs.Cmp.{and_equiv, nat_eq_equiv, on_equiv, partial_equiv_from_equiv};
+ghost use Rattle.std.specs.Cmp.{partial_equiv_from_equiv};
 ghost use Rattle.std.specs.Cmp.Lexicographic.{lists_equiv, nat_list_eq_equiv, pointwise};
 ghost use Rattle.qt_tree.specs.contracts.place.PlaceEq.TheImpl.Laws as places;
 ghost use Rattle.qt_tree.specs.contracts.place.PlacePartialEq.TheImpl as place;
-ghost use Rattle.qt_value.specs.contracts.types.ValueTypeEq.TheImpl.Laws as kinds;
-ghost use Rattle.qt_instructions.specs.Fields.{same_field};
+ghost use Rattle.qt_instructions.specs.Fields.{same_field, same_field_equiv};
 
 use crate::instruction::Instrs;
 use qt_tree::label::Label;
@@ -116,8 +115,7 @@ pub struct Field {
 impl PartialEq for Field {
     ghost eq = { same_field };
 
-    ghost laws = { partial_equiv_from_equiv (and_equiv (on_equiv (λ f. f.name) nat_list_eq_equiv) (and_equiv (on_equiv (λ f. f.kind) kinds.laws-law)
-        (and_equiv (on_equiv (λ f. f.slot) nat_eq_equiv) (on_equiv (λ f. f.lengths) nat_list_eq_equiv)))) };
+    ghost laws = { partial_equiv_from_equiv same_field_equiv };
 
     fn eq(&self, other: &Field) -> bool {
         self.name == other.name
@@ -127,8 +125,7 @@ impl PartialEq for Field {
 }
 
 impl Eq for Field {
-    ghost laws = { and_equiv (on_equiv (λ f. f.name) nat_list_eq_equiv) (and_equiv (on_equiv (λ f. f.kind) kinds.laws-law)
-        (and_equiv (on_equiv (λ f. f.slot) nat_eq_equiv) (on_equiv (λ f. f.lengths) nat_list_eq_equiv))) };
+    ghost laws = { same_field_equiv };
 }
 
 /// The variables whose values are told at the end, in order.

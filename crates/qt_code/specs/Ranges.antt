@@ -1,56 +1,26 @@
--- What instructions name is in range: each slot, work cell and qubit is one of the code's, and each operand has a type with a size
--- (OpenQASM 3.0 live specification, "Types and Casting"; Cross et al. 2022; flat code is this profile's). An operator is in range where it
--- exists for the types of its operands, and a conversion where there is one between its types.
-use Rattle.std.specs.Prelude.{ℕ, ◌+◌, Bool, true, false, ◌&&◌, nat_lt, nat_le, is_some}
+-- What instructions name is in range: each slot, work cell and qubit is one of the code's (OpenQASM 3.0 live specification, "Types and
+-- Casting"; Cross et al. 2022; flat code is this profile's). An operator is in range where it exists for the types of its operands, and a
+-- conversion where there is one between its types.
+use Rattle.std.specs.Prelude.{Bool, true, false, ◌&&◌, is_some}
 use Rattle.std.specs.List.{list_all}
 use Rattle.qt_value.specs.Casts.{converted}
 use Rattle.qt_value.specs.OpTypes.{result_type, unary_result_type}
 use Rattle.qt_value.specs.Types.{has_size, is_whole}
 use Rattle.qt_value.specs.declared.types.ValueType.{ValueType}
 use Rattle.qt_value.specs.declared.types.ValueType.TheVariants as kind
-use Rattle.qt_code_rules.specs.declared.ranges.Sizes.{Sizes}
-use Rattle.qt_instructions.specs.declared.reference.QubitRef.{QubitRef}
-use Rattle.qt_instructions.specs.declared.reference.QubitRef.TheVariants as qubit
-use Rattle.qt_instructions.specs.declared.reference.AngleRef.{AngleRef}
-use Rattle.qt_instructions.specs.declared.reference.AngleRef.TheVariants as angle
 use Rattle.qt_instructions.specs.declared.primitive.Primitive.{Primitive}
 use Rattle.qt_instructions.specs.declared.primitive.Primitive.TheVariants as primitive
-use Rattle.qt_instructions.specs.declared.angle.AngleArg.{AngleArg}
-use Rattle.qt_instructions.specs.declared.angle.AngleArg.TheVariants as argument
-use Rattle.qt_instructions.specs.declared.angle.AngleStep.{AngleStep}
-use Rattle.qt_instructions.specs.declared.angle.AngleStep.TheVariants as step
 use Rattle.qt_instructions.specs.declared.angle.AngleOperation.{AngleOperation}
 use Rattle.qt_instructions.specs.declared.angle.AngleOperation.TheVariants as phase
 use Rattle.qt_instructions.specs.declared.instruction.Operand.{Operand}
 use Rattle.qt_instructions.specs.declared.instruction.Operation.{Operation}
 use Rattle.qt_instructions.specs.declared.instruction.Operation.TheVariants as operation
-use Rattle.qt_instructions.specs.declared.instruction.Store.{Store}
-use Rattle.qt_instructions.specs.declared.instruction.Store.TheVariants as store
 use Rattle.qt_instructions.specs.declared.instruction.Instr.{Instr}
 use Rattle.qt_instructions.specs.declared.instruction.Instr.TheVariants as instr
+use Rattle.qt_code_rules.specs.declared.sizes.Sizes.{Sizes}
+use Rattle.qt_code_rules.specs.Sizes.{has_slot, has_slots, has_cell, has_qubit, has_reference, has_angle, has_operand, has_argument, has_step, has_store}
 
--- ---- slots, cells, qubits
-
-abbrev pub has_slot : Sizes → ℕ → Bool
-has_slot sizes slot = nat_lt slot sizes.slots
-
--- so many slots from the first on
-abbrev pub has_slots : Sizes → ℕ → ℕ → Bool
-has_slots sizes first count = nat_le (first + count) sizes.slots
-
-abbrev pub has_cell : Sizes → ℕ → Bool
-has_cell sizes cell = nat_lt cell sizes.cells
-
-abbrev pub has_qubit : Sizes → ℕ → Bool
-has_qubit sizes q = nat_lt q sizes.qubits
-
-abbrev pub has_reference : Sizes → QubitRef → Bool
-has_reference sizes (qubit.At q) = has_qubit sizes q
-has_reference sizes (qubit.Work cell) = has_cell sizes cell
-
-abbrev pub has_angle : Sizes → AngleRef → Bool
-has_angle sizes (angle.Eighth eighths) = true
-has_angle sizes (angle.Work cell negated) = has_cell sizes cell
+-- ---- primitives
 
 abbrev pub has_primitive : Sizes → Primitive → Bool
 has_primitive sizes (primitive.Turn ones zeros q theta phi lambda) =
@@ -59,10 +29,7 @@ has_primitive sizes (primitive.Turn ones zeros q theta phi lambda) =
 has_primitive sizes (primitive.Phase ones zeros gamma) =
     list_all (has_reference sizes) ones && list_all (has_reference sizes) zeros && has_angle sizes gamma
 
--- ---- operands
-
-abbrev pub has_operand : Sizes → Operand → Bool
-has_operand sizes operand = has_cell sizes operand.cell && has_size operand.kind
+-- ---- operators and conversions
 
 abbrev pub has_operation : Sizes → Operation → Bool
 has_operation sizes (operation.Unary operator of) = has_operand sizes of && is_some (unary_result_type operator of.kind)
@@ -78,17 +45,6 @@ has_conversion sizes from to = has_cell sizes from.cell && can_convert from.kind
 
 -- ---- phases
 
-abbrev pub has_argument : Sizes → AngleArg → Bool
-has_argument sizes (argument.Units units) = true
-has_argument sizes (argument.Work cell) = has_cell sizes cell
-
-abbrev pub has_step : Sizes → AngleStep → Bool
-has_step sizes (step.Add left right) = has_argument sizes left && has_argument sizes right
-has_step sizes (step.Sub left right) = has_argument sizes left && has_argument sizes right
-has_step sizes (step.Neg of) = has_argument sizes of
-has_step sizes (step.Times of k) = has_argument sizes of
-has_step sizes (step.Over of k) = has_argument sizes of
-
 abbrev pub is_angle : ValueType → Bool
 is_angle (kind.Angle n) = true
 is_angle _ = false
@@ -102,11 +58,6 @@ has_angle_operation sizes (phase.Quotient of divisor) = has_argument sizes of &&
 has_angle_operation sizes (phase.NoRest value) = has_operand sizes value && is_whole value.kind
 
 -- ---- instructions
-
-abbrev pub has_store : Sizes → Store → Bool
-has_store sizes store.Nowhere = true
-has_store sizes (store.Bit slot place) = has_slot sizes slot
-has_store sizes (store.BitAt slot cell) = has_slot sizes slot && has_cell sizes cell
 
 -- those that move values and bits of them
 abbrev pub has_move : Sizes → Instr → Bool
