@@ -19,45 +19,38 @@ mod values;
 mod words;
 
 use qt_const::consts::Consts;
-use qt_outside::faults::OutOfMemory;
+use qt_rows::answer::Answer;
+use qt_rows::cases::{Cases, answer_lines};
+use qt_rows::row::Row;
 use std::alloc::Global;
-use std::io::{self, BufWriter, Write};
+use std::io;
 use std::process::ExitCode;
 
-/// The answer to a row, written behind what stands in `answer`.
-fn answer_row(
-    alloc: Global,
-    row: &str,
-    consts: &mut Consts,
-    answer: &mut String,
-) -> Result<(), OutOfMemory> {
-    let (call, rest) = match row.split_once(' ') {
-        Some((call, rest)) => (call, rest),
-        None => (row, ""),
-    };
-    match call {
-        "known" => entries::known(alloc, rest, consts, answer),
-        "cut" => entries::cut(rest, consts, answer),
-        "value" => values::value(alloc, rest, consts, answer),
-        "exponent" => values::exponent(alloc, rest, consts, answer),
-        "type" => values::type_of_cast(alloc, rest, consts, answer),
-        "angle" => values::angle(rest, answer),
-        _ => Ok(answer.push_str("no row")?),
+/// The entries of names that stay from row to row.
+#[derive(Drop)]
+struct ConstCases {
+    consts: Consts,
+}
+
+impl Cases for ConstCases {
+    fn answer(&mut self, alloc: Global, row: &mut Row<'_>, answer: &mut Answer) {
+        let consts = &mut self.consts;
+        match row.word() {
+            "known" => entries::known(alloc, row, consts, answer),
+            "cut" => entries::cut(row, consts, answer),
+            "value" => values::value(alloc, row.rest, consts, answer),
+            "exponent" => values::exponent(alloc, row.rest, consts, answer),
+            "type" => values::type_of_cast(alloc, row.rest, consts, answer),
+            "angle" => values::angle(row, answer),
+            _ => row.refuse(),
+        }
     }
 }
 
 fn main(rt: HostRuntime) -> io::Result<ExitCode> {
     let alloc = rt.alloc();
-    let rows = io::read_to_string(alloc, rt.reader())?;
-    let mut out = BufWriter::new(alloc, io::writer(&rt))?;
-    let mut consts = Consts::new(alloc);
-    for row in rows.lines() {
-        let mut answer = String::new(alloc);
-        if answer_row(alloc, row, &mut consts, &mut answer).is_err() {
-            return Ok(ExitCode::FAILURE);
-        }
-        writeln!(out, "{answer}")?;
-    }
-    out.flush()?;
-    Ok(ExitCode::SUCCESS)
+    let mut cases = ConstCases {
+        consts: Consts::new(alloc),
+    };
+    answer_lines(alloc, &mut cases, rt.reader(), io::writer(&rt))
 }

@@ -1,23 +1,23 @@
+//! Rows of expressions and of angles.
+
 ghost use Rattle.std.specs.Prelude.{◌≡◌, IfSome, IsTrue};
 ghost use Rattle.qt_value.specs.Types.{has_size};
 ghost use Rattle.qt_value.specs.declared.types.ValueType.TheVariants as kind;
 
-use crate::words::{phase_in, u8_in};
+use crate::words::phase_in;
 use qt_const::angles::angle_of;
 use qt_const::consts::Consts;
-use qt_const::fault::ConstFault;
 use qt_const::value::{const_value, exponent_value, scalar_type};
 use qt_expr::parse_expr::parse_expr;
 use qt_lex::lexer::lex;
-use qt_outside::faults::OutOfMemory;
-use qt_tree::expression::Expr;
+use qt_lookahead::refusal::ParseRefusal;
+use qt_rows::answer::Answer;
+use qt_rows::row::Row;
+use qt_tree::expression::{Expr, Scalar};
 use qt_tree::place::Place;
-use qt_tree::refusal::TextRefusal;
-use qt_value::constant::ConstValue;
 use qt_value::types::ValueType;
-use qt_value::value::Value;
 use std::alloc::Global;
-use std::str::SplitWhitespace;
+use std::fmt::Debug;
 
 /// The longest expression of a row, in bytes.
 const LONGEST: usize = 65536;
@@ -29,127 +29,86 @@ const HERE: Place = Place {
     column: 4,
 };
 
-/// What an expression stands for.
-#[derive(Clone, Copy)]
-enum Wanted {
-    Value,
-    Exponent,
-    CastType,
+fn show<T: Debug + Drop>(value: T, answer: &mut Answer) {
+    write!(answer, "{value:?}");
 }
 
-fn tell_value(
-    value: Result<ConstValue, TextRefusal>,
-    answer: &mut String,
-) -> Result<(), OutOfMemory> {
-    write!(answer, "{value:?}")?;
-    Ok(())
-}
-
-fn tell_cast_type(
-    alloc: Global,
-    expr: &Expr,
-    consts: &Consts,
-    answer: &mut String,
-) -> Result<(), OutOfMemory> {
-    match expr {
-        Expr::Cast { to, .. } => {
-            let kind = scalar_type(alloc, to, consts, HERE);
-            write!(answer, "{kind:?}")?;
-        }
-        _ => answer.push_str("no cast")?,
+/// What was read before the last of so many tokens. Where something else was, the answer says so.
+fn whole<T: Drop>(
+    read: Result<(T, usize), ParseRefusal>,
+    count: usize,
+    answer: &mut Answer,
+) -> Option<T> {
+    match read {
+        Ok((whole, behind)) if behind.saturating_add(1) == count => return Some(whole),
+        Ok(_) => answer.push_str("more than an expression"),
+        Err(refusal) => write!(answer, "{refusal:?}"),
     }
-    Ok(())
+    None
 }
 
-fn tell_wanted(
-    alloc: Global,
-    wanted: Wanted,
-    expr: &Expr,
-    consts: &Consts,
-    answer: &mut String,
-) -> Result<(), OutOfMemory> {
-    match wanted {
-        Wanted::Value => tell_value(const_value(alloc, expr, consts, HERE), answer),
-        Wanted::Exponent => tell_value(exponent_value(alloc, expr, consts, HERE), answer),
-        Wanted::CastType => tell_cast_type(alloc, expr, consts, answer),
-    }
-}
-
-/// The tree is made from the text, of which each token but the end belongs to the expression.
-fn tell_expression(
-    alloc: Global,
-    wanted: Wanted,
-    text: &str,
-    consts: &Consts,
-    answer: &mut String,
-) -> Result<(), OutOfMemory> {
+/// The expression of a text, of which each token but the end belongs to it. Where it has none, the answer says why.
+fn expression_in(alloc: Global, text: &str, answer: &mut Answer) -> Option<Expr> {
     if text.len() > LONGEST {
-        return Ok(answer.push_str("too long")?);
+        answer.push_str("too long");
+        return None;
     }
-    let Ok(tokens) = lex(alloc, text, 0) else {
-        return Ok(answer.push_str("no tokens")?);
-    };
-    match parse_expr(alloc, text, &tokens, 0, 0) {
-        Ok((expr, end)) if end.saturating_add(1) == tokens.len() => {
-            tell_wanted(alloc, wanted, &expr, consts, answer)
+    match lex(alloc, text, 0) {
+        Ok(tokens) => whole(parse_expr(alloc, text, &tokens, 0, 0), tokens.len(), answer),
+        Err(_) => {
+            answer.push_str("no tokens");
+            None
         }
-        Ok(_) => Ok(answer.push_str("more than an expression")?),
-        Err(refusal) => Ok(write!(answer, "{refusal:?}")?),
     }
 }
 
 /// `value EXPRESSION`
-pub fn value(
-    alloc: Global,
-    text: &str,
-    consts: &Consts,
-    answer: &mut String,
-) -> Result<(), OutOfMemory> {
-    tell_expression(alloc, Wanted::Value, text, consts, answer)
-}
-
-/// `exponent EXPRESSION`
-pub fn exponent(
-    alloc: Global,
-    text: &str,
-    consts: &Consts,
-    answer: &mut String,
-) -> Result<(), OutOfMemory> {
-    tell_expression(alloc, Wanted::Exponent, text, consts, answer)
-}
-
-/// `type CAST`
-pub fn type_of_cast(
-    alloc: Global,
-    text: &str,
-    consts: &Consts,
-    answer: &mut String,
-) -> Result<(), OutOfMemory> {
-    tell_expression(alloc, Wanted::CastType, text, consts, answer)
-}
-
-/// A width of an angle.
-fn width_in(words: &mut SplitWhitespace) -> Option<u8>
-    ensures { IfSome result (λ width. IsTrue (has_size (kind.Angle width))) }
-{
-    let width = u8_in(words)?;
-    if ValueType::Angle(width).has_size() {
-        Some(width)
-    } else {
-        None
+pub fn value(alloc: Global, text: &str, consts: &Consts, answer: &mut Answer) {
+    if let Some(expr) = expression_in(alloc, text, answer) {
+        show(const_value(alloc, &expr, consts, HERE), answer);
     }
 }
 
-fn angle_in(words: &mut SplitWhitespace) -> Option<Result<Value, ConstFault>> {
-    let width = width_in(words)?;
-    let phase = phase_in(words)?;
-    Some(angle_of(width, phase))
+/// `exponent EXPRESSION`
+pub fn exponent(alloc: Global, text: &str, consts: &Consts, answer: &mut Answer) {
+    if let Some(expr) = expression_in(alloc, text, answer) {
+        show(exponent_value(alloc, &expr, consts, HERE), answer);
+    }
+}
+
+/// The type that a cast is written with.
+fn cast_type(expr: &Expr) -> Option<&Scalar> {
+    match expr {
+        Expr::Cast { to, .. } => Some(to),
+        _ => None,
+    }
+}
+
+/// `type CAST`
+pub fn type_of_cast(alloc: Global, text: &str, consts: &Consts, answer: &mut Answer) {
+    if let Some(expr) = expression_in(alloc, text, answer) {
+        match cast_type(&expr) {
+            Some(to) => show(scalar_type(alloc, to, consts, HERE), answer),
+            None => answer.push_str("no cast"),
+        }
+    }
+}
+
+/// A width of an angle.
+fn width_in(row: &mut Row<'_>) -> Option<u8>
+    ensures { IfSome result (λ width. IsTrue (has_size (kind.Angle width))) }
+{
+    let width = row.u8();
+    if ValueType::Angle(width).has_size() {
+        return Some(width);
+    }
+    row.refuse();
+    None
 }
 
 /// `angle WIDTH UNITS`
-pub fn angle(rest: &str, answer: &mut String) -> Result<(), OutOfMemory> {
-    match angle_in(&mut rest.split_whitespace()) {
-        Some(angle) => Ok(write!(answer, "{angle:?}")?),
-        None => Ok(answer.push_str("no row")?),
+pub fn angle(row: &mut Row<'_>, answer: &mut Answer) {
+    if let Some(width) = width_in(row) {
+        show(angle_of(width, phase_in(row)), answer);
     }
 }

@@ -1,31 +1,32 @@
+//! Phases and types in rows.
+
 use qt_phase::phase::Phase;
+use qt_rows::row::Row;
 use qt_value::types::ValueType;
-use std::str::SplitWhitespace;
-
-pub fn u8_in(words: &mut SplitWhitespace) -> Option<u8> {
-    words.next()?.parse::<u8>().ok()
-}
-
-pub fn u64_in(words: &mut SplitWhitespace) -> Option<u64> {
-    words.next()?.parse::<u64>().ok()
-}
 
 /// The phase of so many units.
-pub fn phase_in(words: &mut SplitWhitespace) -> Option<Phase> {
-    let units = words.next()?.parse::<i64>().ok()?;
-    Phase::from_units(units).ok()
+pub fn phase_in(row: &mut Row<'_>) -> Phase {
+    match Phase::from_units(row.i64()) {
+        Ok(phase) => phase,
+        Err(_) => {
+            row.refuse();
+            Phase::zero()
+        }
+    }
 }
 
 /// The type of that name and width. A bool is 1 wide.
-pub fn type_in(words: &mut SplitWhitespace) -> Option<ValueType> {
-    let name = words.next()?;
-    let width = u8_in(words)?;
+pub fn type_in(row: &mut Row<'_>) -> ValueType {
+    let (name, width) = (row.word(), row.u8());
     match name {
-        "bool" if width == 1 => Some(ValueType::Bool),
-        "bit" => Some(ValueType::Bit(width)),
-        "int" => Some(ValueType::Int(width)),
-        "uint" => Some(ValueType::Uint(width)),
-        "angle" => Some(ValueType::Angle(width)),
-        _ => None,
+        "bool" if width == 1 => ValueType::Bool,
+        "bit" => ValueType::Bit(width),
+        "int" => ValueType::Int(width),
+        "uint" => ValueType::Uint(width),
+        "angle" => ValueType::Angle(width),
+        _ => {
+            row.refuse();
+            ValueType::Bool
+        }
     }
 }
