@@ -1,7 +1,7 @@
 -- The angles in a gate's body (OpenQASM 3.0 live specification, "Gates", hierarchically defined unitary gates; Cross et al. 2022).
 -- What is known of an angle follows from what is known of the gate's parameters.
 use Rattle.std.specs.Prelude.{List, Some}
-use Rattle.qt_gate_calls.specs.declared.angle.Angle.{Angle, Row_of-Angle, end_of-Angle, more_of-Angle}
+use Rattle.qt_gate_calls.specs.declared.angle.Angle.{Angle, end_of-Angle, more_of-Angle}
 use Rattle.qt_gate_calls.specs.declared.angle.Angle.TheVariants.{Units, Parameter, Sum', Difference', Opposite', Product', Quotient'}
 use Rattle.qt_gate_calls.specs.Units.{KnownUnits, of_one, of_two, sum_of, difference_of, negative_of, product_of, quotient_of, nth_known}
 

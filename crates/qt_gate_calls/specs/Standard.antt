@@ -1,9 +1,8 @@
 -- The standard gates, one row a gate, each with its name and its body (OpenQASM 3.0 live specification, "Standard library"; Cross et al. 2022).
 -- The bodies fix each gate's global phase. A row calls U, gphase and rows above it, by their numbers from 0 on.
-use Rattle.std.specs.Prelude.{ℕ, zero, suc, pos, neg_ℤ, ◌^◌, List, [], ◌∷◌, map, codes}
+use Rattle.std.specs.Prelude.{ℕ, pos, neg_ℤ, ◌^◌, List, [], ◌∷◌, map, codes}
 use Rattle.qt_gate_calls.specs.declared.angle.Angle.{Angle}
 use Rattle.qt_gate_calls.specs.declared.angle.Angle.TheVariants as angle
-use Rattle.qt_gate_calls.specs.declared.body.GateModifier.{GateModifier}
 use Rattle.qt_gate_calls.specs.declared.body.GateModifier.TheVariants.{Ctrl}
 use Rattle.qt_gate_calls.specs.declared.body.Called.{Called}
 use Rattle.qt_gate_calls.specs.declared.body.Called.TheVariants as called

@@ -10,7 +10,7 @@
 #![tactic(auto)]
 
 use qt_gate_calls::body::{GateBodies, GateBody};
-use qt_gates::named::{NAMES, standard};
+use qt_gates::named::{ROWS, standard};
 use qt_gates::table::standard_bodies;
 use qt_rows::answer::Answer;
 use qt_rows::cases::{Cases, answer_lines};
@@ -72,7 +72,7 @@ fn answer_bodies(alloc: Global, row: &mut Row<'_>, answer: &mut Answer) {
 
 fn tell_table(bodies: &[GateBody], answer: &mut Answer) {
     answer.push_str("table");
-    for (&name, body) in NAMES.iter().zip(bodies) {
+    for (&(name, _, _), body) in ROWS.iter().zip(bodies) {
         let (parameters, qubits, calls) = (body.parameters, body.qubits, body.calls.len());
         write!(answer, " {name}:{parameters}:{qubits}:{calls}");
     }

@@ -12,9 +12,8 @@
 #![tactic(auto)]
 
 mod angles;
-mod bodies;
-mod calls;
+mod controlled;
 pub mod laws;
-mod lists;
 pub mod named;
 pub mod table;
+mod turning;

@@ -1,7 +1,6 @@
 //! The names of the standard gates.
 
-ghost use Rattle.std.specs.Prelude.{◌≡◌, map};
-ghost use Rattle.std.specs.List.{zip};
+ghost use Rattle.std.specs.Prelude.{◌≡◌, ◌≤◌, length, map};
 ghost use Rattle.qt_gates.specs.Named as spec;
 
 /// A standard gate: the number of its row in the table, and how many parameters and qubits it has.
@@ -12,190 +11,58 @@ pub struct StandardGate {
     pub qubits: u32,
 }
 
-/// The names, in the order of the table.
-pub const NAMES: [&str; 32] = [
-    "id", "p", "phase", "u1", "z", "s", "t", "sdg", "tdg", "x", "y", "h", "sx", "rx", "ry", "rz",
-    "u2", "u3", "cx", "CX", "cy", "cz", "cp", "cphase", "crx", "cry", "crz", "ch", "swap", "ccx",
-    "cswap", "cu",
+/// The rows of the table in its order: a gate's name, and how many parameters and qubits it has.
+pub const ROWS: [(&str, u32, u32); 32] = [
+    ("id", 0, 1),
+    ("p", 1, 1),
+    ("phase", 1, 1),
+    ("u1", 1, 1),
+    ("z", 0, 1),
+    ("s", 0, 1),
+    ("t", 0, 1),
+    ("sdg", 0, 1),
+    ("tdg", 0, 1),
+    ("x", 0, 1),
+    ("y", 0, 1),
+    ("h", 0, 1),
+    ("sx", 0, 1),
+    ("rx", 1, 1),
+    ("ry", 1, 1),
+    ("rz", 1, 1),
+    ("u2", 2, 1),
+    ("u3", 3, 1),
+    ("cx", 0, 2),
+    ("CX", 0, 2),
+    ("cy", 0, 2),
+    ("cz", 0, 2),
+    ("cp", 1, 2),
+    ("cphase", 1, 2),
+    ("crx", 1, 2),
+    ("cry", 1, 2),
+    ("crz", 1, 2),
+    ("ch", 0, 2),
+    ("swap", 0, 2),
+    ("ccx", 0, 3),
+    ("cswap", 0, 3),
+    ("cu", 4, 2),
 ];
 
-/// The gates, in the same order.
-const GATES: [StandardGate; 32] = [
-    StandardGate {
-        number: 0,
-        parameters: 0,
-        qubits: 1,
-    },
-    StandardGate {
-        number: 1,
-        parameters: 1,
-        qubits: 1,
-    },
-    StandardGate {
-        number: 2,
-        parameters: 1,
-        qubits: 1,
-    },
-    StandardGate {
-        number: 3,
-        parameters: 1,
-        qubits: 1,
-    },
-    StandardGate {
-        number: 4,
-        parameters: 0,
-        qubits: 1,
-    },
-    StandardGate {
-        number: 5,
-        parameters: 0,
-        qubits: 1,
-    },
-    StandardGate {
-        number: 6,
-        parameters: 0,
-        qubits: 1,
-    },
-    StandardGate {
-        number: 7,
-        parameters: 0,
-        qubits: 1,
-    },
-    StandardGate {
-        number: 8,
-        parameters: 0,
-        qubits: 1,
-    },
-    StandardGate {
-        number: 9,
-        parameters: 0,
-        qubits: 1,
-    },
-    StandardGate {
-        number: 10,
-        parameters: 0,
-        qubits: 1,
-    },
-    StandardGate {
-        number: 11,
-        parameters: 0,
-        qubits: 1,
-    },
-    StandardGate {
-        number: 12,
-        parameters: 0,
-        qubits: 1,
-    },
-    StandardGate {
-        number: 13,
-        parameters: 1,
-        qubits: 1,
-    },
-    StandardGate {
-        number: 14,
-        parameters: 1,
-        qubits: 1,
-    },
-    StandardGate {
-        number: 15,
-        parameters: 1,
-        qubits: 1,
-    },
-    StandardGate {
-        number: 16,
-        parameters: 2,
-        qubits: 1,
-    },
-    StandardGate {
-        number: 17,
-        parameters: 3,
-        qubits: 1,
-    },
-    StandardGate {
-        number: 18,
-        parameters: 0,
-        qubits: 2,
-    },
-    StandardGate {
-        number: 19,
-        parameters: 0,
-        qubits: 2,
-    },
-    StandardGate {
-        number: 20,
-        parameters: 0,
-        qubits: 2,
-    },
-    StandardGate {
-        number: 21,
-        parameters: 0,
-        qubits: 2,
-    },
-    StandardGate {
-        number: 22,
-        parameters: 1,
-        qubits: 2,
-    },
-    StandardGate {
-        number: 23,
-        parameters: 1,
-        qubits: 2,
-    },
-    StandardGate {
-        number: 24,
-        parameters: 1,
-        qubits: 2,
-    },
-    StandardGate {
-        number: 25,
-        parameters: 1,
-        qubits: 2,
-    },
-    StandardGate {
-        number: 26,
-        parameters: 1,
-        qubits: 2,
-    },
-    StandardGate {
-        number: 27,
-        parameters: 0,
-        qubits: 2,
-    },
-    StandardGate {
-        number: 28,
-        parameters: 0,
-        qubits: 2,
-    },
-    StandardGate {
-        number: 29,
-        parameters: 0,
-        qubits: 3,
-    },
-    StandardGate {
-        number: 30,
-        parameters: 0,
-        qubits: 3,
-    },
-    StandardGate {
-        number: 31,
-        parameters: 4,
-        qubits: 2,
-    },
-];
-
-/// The gate of a name, where the gates stand in the order of their names.
-fn gate_in(mut names: &[&str], mut gates: &[StandardGate], name: &str) -> Option<StandardGate>
-    ensures { result ≡ spec.gate_in (zip (map (λ row. row.now) names.entry.now) gates.entry.now) name.now }
+/// The gate of a name in these rows, numbered from 0 on.
+fn gate_in(mut rows: &[(&str, u32, u32)], name: &str) -> Option<StandardGate>
+    requires { length rows.now ≤ 32 }
+    ensures { result ≡ spec.gate_in 0 (map (λ row. (row.0.now, row.1, row.2)) rows.entry.now) name.now }
 {
-    'table: while let [first, later_names @ ..] = names {
-        let [gate, later_gates @ ..] = gates else {
-            return None;
-        };
-        if name == *first {
-            return Some(*gate);
+    let mut number = 0;
+    'table: while let [(row_name, parameters, qubits), later @ ..] = rows {
+        if name == *row_name {
+            return Some(StandardGate {
+                number,
+                parameters: *parameters,
+                qubits: *qubits,
+            });
         }
-        names = later_names;
-        gates = later_gates;
+        number += 1;
+        rows = later;
     }
     None
 }
@@ -205,5 +72,5 @@ fn gate_in(mut names: &[&str], mut gates: &[StandardGate], name: &str) -> Option
 pub fn standard(name: &str) -> Option<StandardGate>
     ensures { result ≡ spec.standard_named name.now }
 {
-    gate_in(&NAMES, &GATES, name)
+    gate_in(&ROWS, name)
 }

@@ -1,12 +1,14 @@
-use Rattle.std.proofs.Common.{◌≡◌, length, map}
-use Rattle.std.specs.List.{zip}
+use Rattle.std.proofs.Common.{◌≡◌, ◌+◌, length, map}
 use Rattle.qt_gates.specs.Named as spec
 use Rattle.qt_gates.proofs.named.gate_in.Given as goal
 
 abbrev pub invariant-table : goal.invariant-table
-invariant-table l =
-    spec.gate_in (zip (map (λ row. row.now) l.names) l.gates) l.name
-    ≡ spec.gate_in (zip (map (λ row. row.now) l.initial.names) l.initial.gates) l.name
+invariant-table l = record {
+  numbered : l.number + length l.rows ≡ length l.initial.rows;
+  same :
+      spec.gate_in l.number (map (λ row. (row.0.now, row.1, row.2)) l.rows) l.name
+      ≡ spec.gate_in 0 (map (λ row. (row.0.now, row.1, row.2)) l.initial.rows) l.name;
+}
 
 abbrev pub decreases-table : goal.decreases-table
-decreases-table l = length l.names
+decreases-table l = length l.rows

@@ -3,23 +3,36 @@
 ghost use Rattle.std.specs.Prelude.{◌≡◌, [], ◌∷◌, IfOk};
 ghost use Rattle.qt_gate_calls.specs.Standard as spec;
 
+use crate::angles::given;
 use crate::lists;
 use qt_gate_calls::angle::Angle;
 use qt_gate_calls::body::{BodyCall, Called, GateModifier};
 use sqlite_items::Items;
 use std::alloc::{AllocError, Global};
 
-/// A call without modifiers.
-pub fn plain(alloc: Global, gate: Called, angles: Items<Angle>, qubits: Items<u32>) -> BodyCall
-    ensures { result ≡ spec.call gate angles qubits }
+/// A call, written without operators.
+pub fn call(
+    modifiers: Items<GateModifier>,
+    gate: Called,
+    angles: Items<Angle>,
+    qubits: Items<u32>,
+) -> BodyCall
+    ensures { result ≡ record (spec.call gate angles qubits) { modifiers = modifiers } }
 {
     BodyCall {
-        modifiers: Items::new(alloc),
+        modifiers,
         gate,
         angles,
         qubits,
         operators: 0,
     }
+}
+
+/// A call without modifiers.
+fn plain(alloc: Global, gate: Called, angles: Items<Angle>, qubits: Items<u32>) -> BodyCall
+    ensures { result ≡ spec.call gate angles qubits }
+{
+    call(Items::new(alloc), gate, angles, qubits)
 }
 
 /// A call under one control.
@@ -32,13 +45,7 @@ pub fn controlled(
     ensures { IfOk result (λ made. made ≡ spec.under_control (spec.call gate angles qubits)) }
 {
     let modifiers = lists::one(alloc, GateModifier::Ctrl)?;
-    Ok(BodyCall {
-        modifiers,
-        gate,
-        angles,
-        qubits,
-        operators: 0,
-    })
+    Ok(call(modifiers, gate, angles, qubits))
 }
 
 /// U on the first qubit.
@@ -78,4 +85,14 @@ pub fn row_on_two(
 {
     let qubits = lists::two(alloc, first, second)?;
     Ok(plain(alloc, Called::Gate { number }, Items::new(alloc), qubits))
+}
+
+/// ctrl @ U(θ, φ, λ) a, b, by the first three parameters.
+pub fn controlled_u(alloc: Global) -> Result<BodyCall, AllocError>
+    ensures { IfOk result (λ made.
+        made ≡ spec.under_control (spec.u (spec.given 0) (spec.given 1) (spec.given 2) (0 ∷ 1 ∷ []))) }
+{
+    let angles = lists::three(alloc, given(0), given(1), given(2))?;
+    let on_both = lists::two(alloc, 0, 1)?;
+    controlled(alloc, Called::U, angles, on_both)
 }

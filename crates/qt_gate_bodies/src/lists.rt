@@ -1,6 +1,6 @@
 //! Short lists.
 
-ghost use Rattle.std.specs.Prelude.{◌≡◌, [], ◌∷◌, ◌++◌, IfOk};
+ghost use Rattle.std.specs.Prelude.{◌≡◌, [], ◌∷◌, IfOk};
 
 use sqlite_items::Items;
 use std::alloc::{AllocError, Global};
@@ -29,29 +29,5 @@ pub fn three<T: Drop>(alloc: Global, first: T, second: T, third: T) -> Result<It
 {
     let mut list = two(alloc, first, second)?;
     list.push(third)?;
-    Ok(list)
-}
-
-/// The list of four items.
-pub fn four<T: Drop>(
-    alloc: Global,
-    first: T,
-    second: T,
-    third: T,
-    fourth: T,
-) -> Result<Items<T>, AllocError>
-    ensures { IfOk result (λ made. made ≡ first ∷ second ∷ third ∷ fourth ∷ []) }
-{
-    let mut list = three(alloc, first, second, third)?;
-    list.push(fourth)?;
-    Ok(list)
-}
-
-/// One list, and behind it the other.
-pub fn joined<T: Drop>(front: Items<T>, back: Items<T>) -> Result<Items<T>, AllocError>
-    ensures { IfOk result (λ made. made ≡ front ++ back) }
-{
-    let mut list = front;
-    list.append(back)?;
     Ok(list)
 }
