@@ -1,5 +1,5 @@
 -- The refusals of constants are those of the typing.
-use Rattle.std.proofs.Common.{◌≡◌, ◌≢◌, ◌⊎◌, inl, inr, Result, Ok, Err, Bool, false, refl, sym, ap, ◌∙◌}
+use Rattle.std.proofs.Common.{◌≡◌, ◌≢◌, inl, inr, Ok, Err, false, refl, sym, ap}
 use Rattle.qt_const.specs.Refusals.{RefusesAt}
 use Rattle.qt_const_rules.specs.Answers.{Answer}
 use Rattle.qt_const_rules.specs.declared.fault.ConstFault.TheVariants as fault

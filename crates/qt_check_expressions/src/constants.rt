@@ -1,26 +1,24 @@
 //! What has to be constant: values, whole numbers and types.
 
 ghost use Rattle.std.specs.Prelude.{◌≡◌, ◌<◌, ◌^◌, IfOk, IsTrue, Ok, Err, unsigned_abs};
-ghost use Rattle.qt_const.specs.Constants.{is_whole_zero};
 ghost use Rattle.qt_const_rules.specs.Answers.{whole_number};
 ghost use Rattle.qt_value.specs.Types.{has_size};
-ghost use Rattle.qt_typing.specs.Checked.{Gives, answer_at, refusal_of};
+ghost use Rattle.qt_typing.specs.Checked.{Gives, answer_at};
 ghost use Rattle.qt_typing.specs.Conversions.{is_zero_answer, is_zero_at, phase_at, known_phase};
 ghost use Rattle.qt_typing.specs.Environment.{constant_at, number_at, type_at};
 
+use qt_const::casts::is_whole_zero;
 use qt_const::modes::Mode;
 use qt_const::value::{type_in, value_in};
 use qt_const_rules::constant::whole_number;
-use qt_const_rules::fault::ConstFault;
 use qt_outside::faults::OutOfMemory;
 use qt_phase::phase::Phase;
 use qt_tree::expression::{Expr, Scalar};
 use qt_tree::place::Place;
-use qt_tree::refusal::{Cause, TextRefusal};
+use qt_tree::refusal::TextRefusal;
 use qt_typing::names::Names;
 use qt_value::constant::ConstValue;
 use qt_value::types::ValueType;
-use qt_value::value::Value;
 use std::alloc::Global;
 
 /// The value of a constant expression.
@@ -52,20 +50,6 @@ pub fn type_at(
     type_in(alloc, scalar, &names.consts, mode, place)
 }
 
-/// The refusal of what is no constant.
-pub fn refusal_at(place: Place, fault: ConstFault) -> TextRefusal
-    ensures { result ≡ refusal_of place fault }
-{
-    match fault {
-        ConstFault::Name(name) => TextRefusal::E8(place, name),
-        ConstFault::Type => TextRefusal::E10(place),
-        ConstFault::Rest => TextRefusal::E12(place, Cause::Exact),
-        ConstFault::Call => TextRefusal::E11(place, Cause::Call),
-        ConstFault::Arity(wanted, given) => TextRefusal::E14(place, wanted, given),
-        ConstFault::Const(cause) => TextRefusal::E12(place, cause),
-    }
-}
-
 /// The whole number of a constant.
 fn whole_at(place: Place, constant: ConstValue) -> Result<i128, TextRefusal>
     ensures value { Gives (answer_at place (whole_number constant)) result }
@@ -73,7 +57,7 @@ fn whole_at(place: Place, constant: ConstValue) -> Result<i128, TextRefusal>
 {
     match whole_number(constant) {
         Ok(number) => Ok(number),
-        Err(fault) => Err(refusal_at(place, fault)),
+        Err(fault) => Err(fault.at(place)),
     }
 }
 
@@ -116,13 +100,6 @@ pub fn phase_at(
 {
     let constant = constant_at(alloc, names, mode, place, written)?;
     known_phase(place, constant)
-}
-
-/// Whether a value is the whole number 0.
-fn is_whole_zero(value: Value) -> bool
-    ensures { result ≡ is_whole_zero value }
-{
-    value.kind().is_whole() && value.number() == 0
 }
 
 /// Whether what is answered of a constant is the whole number 0.

@@ -5,9 +5,10 @@ ghost use Rattle.qt_value.specs.declared.types.ValueType.TheVariants as kind;
 ghost use Rattle.qt_typed.specs.declared.expression.TypedExpr.TheVariants as typed;
 ghost use Rattle.qt_typing.specs.declared.operand.Operand.TheVariants as operand;
 ghost use Rattle.qt_typing.specs.Checked.{Gives, and_then};
-ghost use Rattle.qt_typing.specs.Conversions.{as_type, converts, has_row, is_same, phase_as, phase_at, rescales, truth_at, value_form, wanted, zero_as, Written, Unwritten};
+ghost use Rattle.qt_typing.specs.Conversions.{as_type, converts, has_row, is_same, rescales, truth_at};
+ghost use Rattle.qt_typing.specs.Conversions.{phase_as, phase_at, value_form, wanted, zero_as};
 
-use crate::constants::{is_zero_at, phase_at, refusal_at};
+use crate::constants::{is_zero_at, phase_at};
 use qt_const::casts::cast_to;
 use qt_const::modes::Mode;
 use qt_outside::faults::OutOfMemory;
@@ -18,6 +19,7 @@ use qt_tree::refusal::TextRefusal;
 use qt_typed::expression::TypedExpr;
 use qt_typing::names::Names;
 use qt_typing::operand::Operand;
+use qt_typing::way::Way;
 use qt_value::constant::ConstValue;
 use qt_value::types::ValueType;
 use qt_value::value::Value;
@@ -66,20 +68,15 @@ fn has_row(from: ValueType, to: ValueType) -> bool
     }
 }
 
-/// Whether a value of a type becomes one of another by a cast that is written.
+/// Whether a value of a type becomes one of another in that way.
 #[tactic(auto, unfolding(qt_typing::specs::Conversions::converts))]
-pub fn casts(from: ValueType, to: ValueType) -> bool
-    ensures { result ≡ converts Written from to }
+pub fn converts(way: Way, from: ValueType, to: ValueType) -> bool
+    ensures { result ≡ converts way from to }
 {
-    has_row(from, to)
-}
-
-/// Whether a value of a type becomes one of another without a cast.
-#[tactic(auto, unfolding(qt_typing::specs::Conversions::converts))]
-pub fn converts(from: ValueType, to: ValueType) -> bool
-    ensures { result ≡ converts Unwritten from to }
-{
-    has_row(from, to) && !rescales(from, to)
+    match way {
+        Way::Written => has_row(from, to),
+        Way::Unwritten => has_row(from, to) && !rescales(from, to),
+    }
 }
 
 /// A form as a value of another type.
@@ -107,7 +104,7 @@ pub fn as_type(
     if is_same(from, to) {
         return Ok(form);
     }
-    if !converts(from, to) {
+    if !converts(Way::Unwritten, from, to) {
         return Err(TextRefusal::E10(place));
     }
     Ok(conversion(alloc, to, form)?)
@@ -182,7 +179,7 @@ pub fn phase_as(
     }
     match cast_to(to, ConstValue::Phase(phase)) {
         Ok(value) => value_form(alloc, place, value),
-        Err(fault) => Err(refusal_at(place, fault)),
+        Err(fault) => Err(fault.at(place)),
     }
 }
 
@@ -205,6 +202,7 @@ fn written_phase_as(
 #[tactic(auto, unfolding(qt_typing::specs::Conversions::wanted))]
 fn value_wanted(
     alloc: Global,
+    way: Way,
     names: &Names,
     mode: Mode,
     place: Place,
@@ -213,21 +211,24 @@ fn value_wanted(
     from: ValueType,
     form: Boxed<TypedExpr>,
 ) -> Result<Boxed<TypedExpr>, TextRefusal>
-    ensures { Gives (wanted Unwritten names.now mode place to written.now (operand.Value from form)) result }
+    ensures { Gives (wanted way names.now mode place to written.now (operand.Value from form)) result }
 {
     if is_same(from, to) {
         return Ok(form);
     }
-    if converts(from, to) {
+    if converts(way, from, to) {
         return Ok(conversion(alloc, to, form)?);
     }
     zero_as(alloc, names, mode, place, to, written)
 }
 
-/// An operand where a value of a type is wanted.
+/// An operand where a value of a type is wanted, by a cast or without one. E10 exactly where no conversion fits, and the operand isn't
+/// the constant whole number 0 where an angle is wanted; a phase has to be constant, and is E12 where it is no whole number of the
+/// angle's steps.
 #[tactic(auto, unfolding(qt_typing::specs::Conversions::wanted))]
 pub fn wanted(
     alloc: Global,
+    way: Way,
     names: &Names,
     mode: Mode,
     place: Place,
@@ -235,55 +236,11 @@ pub fn wanted(
     written: &Expr,
     of: Operand,
 ) -> Result<Boxed<TypedExpr>, TextRefusal>
-    ensures { Gives (wanted Unwritten names.now mode place to written.now of) result }
+    ensures { Gives (wanted way names.now mode place to written.now of) result }
 {
     match of {
         Operand::Value { kind, form } => {
-            value_wanted(alloc, names, mode, place, to, written, kind, form)
-        }
-        Operand::Phase { .. } => written_phase_as(alloc, names, mode, place, to, written),
-    }
-}
-
-/// A value by a cast.
-#[tactic(auto, unfolding(qt_typing::specs::Conversions::wanted))]
-fn value_cast(
-    alloc: Global,
-    names: &Names,
-    mode: Mode,
-    place: Place,
-    to: ValueType,
-    written: &Expr,
-    from: ValueType,
-    form: Boxed<TypedExpr>,
-) -> Result<Boxed<TypedExpr>, TextRefusal>
-    ensures { Gives (wanted Written names.now mode place to written.now (operand.Value from form)) result }
-{
-    if is_same(from, to) {
-        return Ok(form);
-    }
-    if casts(from, to) {
-        return Ok(conversion(alloc, to, form)?);
-    }
-    zero_as(alloc, names, mode, place, to, written)
-}
-
-/// An operand by a cast.
-#[tactic(auto, unfolding(qt_typing::specs::Conversions::wanted))]
-pub fn cast_of(
-    alloc: Global,
-    names: &Names,
-    mode: Mode,
-    place: Place,
-    to: ValueType,
-    written: &Expr,
-    of: Operand,
-) -> Result<Boxed<TypedExpr>, TextRefusal>
-    ensures { Gives (wanted Written names.now mode place to written.now of) result }
-{
-    match of {
-        Operand::Value { kind, form } => {
-            value_cast(alloc, names, mode, place, to, written, kind, form)
+            value_wanted(alloc, way, names, mode, place, to, written, kind, form)
         }
         Operand::Phase { .. } => written_phase_as(alloc, names, mode, place, to, written),
     }

@@ -13,9 +13,9 @@
 
 pub mod casts;
 mod constant;
-mod indexes;
+pub mod indexes;
 mod names;
-mod operators;
+pub mod operators;
 mod parts;
 mod sorts;
 pub mod value;

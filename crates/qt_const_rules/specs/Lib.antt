@@ -3,5 +3,6 @@ pub mod Answers
 pub mod Builtins
 pub mod Modes
 pub mod Names
+pub mod Refusals
 pub mod Rests
 pub mod Sorts

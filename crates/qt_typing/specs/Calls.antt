@@ -36,9 +36,10 @@ use Rattle.qt_value.specs.declared.types.ValueType.{ValueType}
 use Rattle.qt_typing.specs.declared.names.Names.{Names}
 use Rattle.qt_typing.specs.declared.state.Called.{Called}
 use Rattle.qt_typing.specs.declared.state.State.{State}
+use Rattle.qt_typing.specs.declared.way.Way.TheVariants.{Unwritten}
 use Rattle.qt_typing.specs.Checked.{Checked, and_then, unless, or_refuse, told}
 use Rattle.qt_typing.specs.Environment.{Typing, ◌>>=◌, pure, seen, take_slots, span_from}
-use Rattle.qt_typing.specs.Conversions.{Unwritten, converts, is_same}
+use Rattle.qt_typing.specs.Conversions.{converts, is_same}
 use Rattle.qt_typing.specs.Expressions.{or_unfit, value_at}
 use Rattle.qt_typing.specs.Qubits.{qubits_at, operand_qubits, outcomes_fit, repeats}
 

@@ -2,10 +2,8 @@
 -- A judgement gives what it finds, or a refusal with the place of its statement. Judgements go from left to right.
 use Rattle.std.specs.Prelude.{◌≡◌, ◌≢◌, ◌-◌, ◌^◌, ℕ, min, Option, Some, None, Result, Ok, Err, Bool, true, false}
 use Rattle.qt_const_rules.specs.Answers.{Answer}
-use Rattle.qt_const_rules.specs.declared.fault.ConstFault.{ConstFault}
-use Rattle.qt_const_rules.specs.declared.fault.ConstFault.TheVariants as fault
+use Rattle.qt_const_rules.specs.Refusals.{refusal_of}
 use Rattle.qt_tree.specs.declared.place.Place.{Place}
-use Rattle.qt_tree.specs.declared.refusal.Cause.TheVariants as cause
 use Rattle.qt_tree.specs.declared.refusal.TextRefusal.{TextRefusal}
 use Rattle.qt_tree.specs.declared.refusal.TextRefusal.TheVariants as refusal
 
@@ -25,15 +23,6 @@ unless false e = Ok tt
 abbrev pub or_refuse : {A : Type 0} → TextRefusal → Option A → Checked A
 or_refuse e (Some a) = Ok a
 or_refuse e None = Err e
-
--- the refusal of a statement at this place in which a constant has that fault
-abbrev pub refusal_of : Place → ConstFault → TextRefusal
-refusal_of place (fault.Name name) = refusal.E8 place name
-refusal_of place fault.Type = refusal.E10 place
-refusal_of place fault.Rest = refusal.E12 place cause.Exact
-refusal_of place fault.Call = refusal.E11 place cause.Call
-refusal_of place (fault.Arity wanted given) = refusal.E14 place wanted given
-refusal_of place (fault.Const why) = refusal.E12 place why
 
 -- what is answered of a constant in a statement at this place
 abbrev pub answer_at : {A : Type 0} → Place → Answer A → Checked A

@@ -20,6 +20,8 @@ use Rattle.qt_value.specs.declared.types.ValueType.TheVariants as kind
 use Rattle.qt_typing.specs.declared.names.Names.{Names}
 use Rattle.qt_typing.specs.declared.operand.Operand.{Operand}
 use Rattle.qt_typing.specs.declared.operand.Operand.TheVariants as operand
+use Rattle.qt_typing.specs.declared.way.Way.{Way}
+use Rattle.qt_typing.specs.declared.way.Way.TheVariants.{Written, Unwritten}
 use Rattle.qt_typing.specs.Checked.{Checked, and_then, answer_at}
 use Rattle.qt_typing.specs.Environment.{constant_at}
 
@@ -31,11 +33,6 @@ is_same (kind.Uint n) (kind.Uint m) = nat_eq n m
 is_same (kind.Angle n) (kind.Angle m) = nat_eq n m
 is_same kind.Phase kind.Phase = true
 is_same _ _ = false
-
--- how a conversion is made: by a cast, or without being written
-pub data Way : Type 0 where
-  Written : Way
-  Unwritten : Way
 
 -- there is a conversion: whether there is one doesn't depend on the bits
 abbrev pub has_row : ValueType → ValueType → Bool

@@ -1,7 +1,7 @@
 -- The typing of expressions (OpenQASM 3.0 live specification, "Types and Casting" and "Classical instructions"; Cross et al. 2022).
 -- A form's typing is made of those of its parts, one line a form: a name before its indexes, an operator's operands before it. A part keeps
 -- how it is written, since some parts have to be constant. A phase is typed before it is reckoned.
-use Rattle.std.specs.Prelude.{ℕ, ◌-◌, ◌^◌, min, nat_eq, Bool, true, false, ◌&&◌, if◌then◌else◌, ℤ, pos, List, [], ◌∷◌, ◌++◌, length, Option, Some, None, Result, Ok, Err}
+use Rattle.std.specs.Prelude.{ℕ, ◌-◌, ◌^◌, min, nat_eq, Bool, true, false, ◌&&◌, if◌then◌else◌, ℤ, pos, List, [], ◌∷◌, length, Option, Some, None, Result, Ok, Err}
 use Rattle.qt_const.specs.Constants.{named}
 use Rattle.qt_const.specs.Operators.{op_of_infix, op_of_prefix}
 use Rattle.qt_const_rules.specs.Builtins.{builtin_of}
@@ -44,14 +44,16 @@ use Rattle.qt_value.specs.declared.operators.Op.{Op}
 use Rattle.qt_value.specs.declared.operators.Op.TheVariants as op
 use Rattle.qt_value.specs.declared.operators.UnaryOp.TheVariants as unary
 use Rattle.qt_value.specs.declared.types.ValueType.{ValueType}
+use Rattle.qt_typing.specs.declared.indexes.Storage.{Storage}
 use Rattle.qt_typing.specs.declared.names.Names.{Names}
 use Rattle.qt_typing.specs.declared.operand.Operand.{Operand}
 use Rattle.qt_typing.specs.declared.operand.Operand.TheVariants as operand
+use Rattle.qt_typing.specs.declared.way.Way.TheVariants.{Written, Unwritten}
 use Rattle.qt_typing.specs.Checked.{Checked, and_then, answer_at, told}
 use Rattle.qt_typing.specs.Environment.{constant_at, type_at}
-use Rattle.qt_typing.specs.Conversions.{Written, Unwritten, wanted}
+use Rattle.qt_typing.specs.Conversions.{wanted}
 use Rattle.qt_typing.specs.Sorts.{sort_at}
-use Rattle.qt_typing.specs.Indexes.{Part, Shape, Single, Bounds, Several, IndexPart, Storage, Reached, Steps, reached, steps_from}
+use Rattle.qt_typing.specs.Indexes.{Part, Shape, Single, Bounds, Several, IndexPart, Reached, all_indexes, reached, steps_from}
 use Rattle.qt_typing.specs.Operators.{before_operand, unary_row, combined, both_true}
 use Rattle.qt_value.specs.OpTypes.{unary_result_type}
 
@@ -113,10 +115,6 @@ constant_bits names m place indexes (constant.Phase p) = Err (refusal.E10 place)
 -- a constant by its value
 unfoldable pub named_constant : Names → Place → Name → Checked ConstValue
 named_constant names place name = answer_at place (named name 0 (known_of names.consts name))
-
-abbrev pub all_indexes : List (List IndexPart) → List IndexPart
-all_indexes [] = []
-all_indexes (indexes ∷ rest) = indexes ++ all_indexes rest
 
 -- an input, or a constant by its value
 abbrev pub unassigned : Names → Mode → Place → Name → List IndexPart → Option Storage → Checked Operand

@@ -20,6 +20,10 @@ use Rattle.qt_typed.specs.declared.expression.TypedVariable.TheVariants as varia
 use Rattle.qt_value.specs.Types.{is_whole, width_of}
 use Rattle.qt_value.specs.declared.types.ValueType.{ValueType}
 use Rattle.qt_value.specs.declared.types.ValueType.TheVariants as kind
+use Rattle.qt_typing.specs.declared.indexes.Bits.{Bits}
+use Rattle.qt_typing.specs.declared.indexes.Slice.{Slice}
+use Rattle.qt_typing.specs.declared.indexes.Steps.{Steps}
+use Rattle.qt_typing.specs.declared.indexes.Storage.{Storage}
 use Rattle.qt_typing.specs.declared.names.Names.{Names}
 use Rattle.qt_typing.specs.declared.operand.Operand.{Operand}
 use Rattle.qt_typing.specs.declared.operand.Operand.TheVariants as operand
@@ -43,6 +47,11 @@ pub record IndexPart : Type 0 where
   pub written : Index
   pub shape : Shape
 
+-- all indexes behind a name, whatever brackets they stand in
+abbrev pub all_indexes : {A : Type 0} → List (List A) → List A
+all_indexes [] = []
+all_indexes (indexes ∷ rest) = indexes ++ all_indexes rest
+
 -- ---- single indexes
 
 -- a place as a constant
@@ -58,22 +67,15 @@ whole_index place fits _ = Err (refusal.E10 place)
 unfoldable pub fixed_place : Names → Mode → Place → ℕ → Expr → Checked ℕ
 fixed_place names m place n written = and_then (number_at names m place written) (λ i. answer_at place (place_in n i))
 
--- an index is typed first, and is in its range where it is constant as a whole
-unfoldable pub single_index : Names → Mode → Place → Bool → ℕ → Part → Checked TypedExpr
-single_index names m place fits n part =
-    and_then (part.typed m) (λ x.
+-- an index that is typed is in its range where it is constant as a whole
+unfoldable pub placed_index : Names → Mode → Place → Bool → ℕ → Expr → Operand → Checked TypedExpr
+placed_index names m place fits n written x =
     and_then (whole_index place fits x) (λ form.
-    if is_fixed names part.written
-    then and_then (fixed_place names m place n part.written) (λ i. Ok (place_form i))
-    else Ok form))
+    if is_fixed names written
+    then and_then (fixed_place names m place n written) (λ i. Ok (place_form i))
+    else Ok form)
 
 -- ---- ranges
-
--- a start, a step and a number of places
-pub record Slice : Type 0 where
-  pub start : ℕ
-  pub step : ℕ
-  pub count : ℕ
 
 -- the places from the start up to and with the end
 unfoldable pub places_between : Place → ℕ → ℕ → ℕ → Checked Slice
@@ -103,11 +105,6 @@ range_places names m place fits n range =
 
 -- ---- bits of a value
 
--- a step to bits of a value, and the type of what is there
-pub record Bits : Type 0 where
-  pub step : TypedStep
-  pub kind : ValueType
-
 abbrev pub is_bits : ValueType → Bool
 is_bits (kind.Bit n) = true
 is_bits _ = false
@@ -116,17 +113,20 @@ is_bits _ = false
 abbrev pub slice_step : Slice → Bits
 slice_step s = record { step = step.Slice s.start (min s.step 64) s.count; kind = kind.Bit s.count }
 
-unfoldable pub bits_at : Names → Mode → Place → ValueType → Shape → Checked Bits
-bits_at names m place of (Single part) =
-    and_then (single_index names m place (has_places of) (width_of of) part) (λ i. Ok (record { step = step.At i; kind = kind.Bit 1 }))
-bits_at names m place of (Bounds range) =
-    and_then (range_places names m place (is_bits of) (width_of of) range) (λ s. Ok (slice_step s))
-bits_at names m place of Several = Err (refusal.E10 place)
+-- the bit at an index that is typed
+unfoldable pub bit_at : Names → Mode → Place → ValueType → Expr → Operand → Checked Bits
+bit_at names m place of written x =
+    and_then (placed_index names m place (has_places of) (width_of of) written x) (λ i. Ok (record { step = step.At i; kind = kind.Bit 1 }))
 
--- the steps from a value to bits of it, and the type of what is there
-pub record Steps : Type 0 where
-  pub steps : List TypedStep
-  pub kind : ValueType
+unfoldable pub slice_at : Names → Mode → Place → ValueType → Range → Checked Bits
+slice_at names m place of range =
+    and_then (range_places names m place (is_bits of) (width_of of) range) (λ s. Ok (slice_step s))
+
+-- an index is typed first
+unfoldable pub bits_at : Names → Mode → Place → ValueType → Shape → Checked Bits
+bits_at names m place of (Single part) = and_then (part.typed m) (bit_at names m place of part.written)
+bits_at names m place of (Bounds range) = slice_at names m place of range
+bits_at names m place of Several = Err (refusal.E10 place)
 
 -- each index applies to the value that is left
 unfoldable pub steps_from : Names → Mode → Place → List TypedStep → ValueType → List IndexPart → Checked Steps
@@ -136,19 +136,13 @@ steps_from names m place done of (index ∷ rest) =
 
 -- ---- variables
 
--- where a variable is kept: its type, the lengths of an array, and its first slot
-pub record Storage : Type 0 where
-  pub kind : ValueType
-  pub lengths : List ℕ
-  pub slot : ℕ
-
 -- a variable or an element of an array, and the indexes that are left
 pub record Reached : Type 0 where
   pub variable : TypedVariable
   pub rest : List IndexPart
 
 abbrev pub dimension_index : Names → Mode → Place → ℕ → Shape → Checked TypedExpr
-dimension_index names m place n (Single part) = single_index names m place true n part
+dimension_index names m place n (Single part) = and_then (part.typed m) (placed_index names m place true n part.written)
 dimension_index names m place n _ = Err (refusal.E10 place)
 
 -- an index for each dimension that is left

@@ -29,10 +29,11 @@ use Rattle.qt_typed.specs.declared.call.TypedQubits.{TypedQubits}
 use Rattle.qt_typed.specs.declared.call.TypedQubits.TheVariants as qubits
 use Rattle.qt_typed.specs.declared.expression.TypedExpr.{TypedExpr}
 use Rattle.qt_value.specs.declared.types.ValueType.{ValueType}
+use Rattle.qt_typing.specs.declared.indexes.Slice.{Slice}
 use Rattle.qt_typing.specs.declared.names.Names.{Names}
 use Rattle.qt_typing.specs.Checked.{Checked, and_then, unless, or_refuse, told}
 use Rattle.qt_typing.specs.Sorts.{is_fixed}
-use Rattle.qt_typing.specs.Indexes.{Slice, whole_index, fixed_place, range_places}
+use Rattle.qt_typing.specs.Indexes.{whole_index, fixed_place, range_places}
 use Rattle.qt_typing.specs.Expressions.{or_unfit, typed_of}
 
 -- ---- what names stand for qubits

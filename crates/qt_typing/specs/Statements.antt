@@ -46,6 +46,7 @@ use Rattle.qt_value.specs.declared.operators.Op.{Op}
 use Rattle.qt_value.specs.declared.operators.Op.TheVariants as op
 use Rattle.qt_value.specs.declared.types.ValueType.{ValueType}
 use Rattle.qt_value.specs.declared.types.ValueType.TheVariants as kind
+use Rattle.qt_typing.specs.declared.indexes.Storage.{Storage}
 use Rattle.qt_typing.specs.declared.names.Names.{Names}
 use Rattle.qt_typing.specs.declared.operand.Operand.TheVariants as operand
 use Rattle.qt_typing.specs.declared.state.Around.{Around}
@@ -56,9 +57,10 @@ use Rattle.qt_typing.specs.declared.state.Returns.TheVariants as returns
 use Rattle.qt_typing.specs.declared.state.State.{State}
 use Rattle.qt_typing.specs.Checked.{Checked, and_then, unless}
 use Rattle.qt_typing.specs.Environment.{Typing, ◌>>=◌, pure, seen, type_at, take_slots, span_from, enter, leave}
-use Rattle.qt_typing.specs.Conversions.{Unwritten, wanted, truth_at}
-use Rattle.qt_typing.specs.Indexes.{Storage, whole_index}
+use Rattle.qt_typing.specs.Conversions.{wanted, truth_at}
+use Rattle.qt_typing.specs.Indexes.{whole_index}
 use Rattle.qt_typing.specs.declared.operand.Beside.{Beside}
+use Rattle.qt_typing.specs.declared.way.Way.TheVariants.{Unwritten}
 use Rattle.qt_typing.specs.Operators.{right_beside}
 use Rattle.qt_typing.specs.Expressions.{typed_of, storage_of, or_unfit, named_constant}
 use Rattle.qt_typing.specs.Qubits.{operand_qubits}

@@ -18,10 +18,12 @@ use Rattle.qt_typed.specs.declared.expression.TypedTarget.{TypedTarget}
 use Rattle.qt_typed.specs.declared.expression.TypedVariable.{TypedVariable}
 use Rattle.qt_typed.specs.declared.expression.TypedVariable.TheVariants as variable
 use Rattle.qt_value.specs.Types.{width_of}
+use Rattle.qt_typing.specs.declared.indexes.Steps.{Steps}
+use Rattle.qt_typing.specs.declared.indexes.Storage.{Storage}
 use Rattle.qt_typing.specs.declared.names.Names.{Names}
 use Rattle.qt_typing.specs.Checked.{Checked, and_then, unless}
-use Rattle.qt_typing.specs.Indexes.{IndexPart, Storage, Reached, Steps, reached, steps_from}
-use Rattle.qt_typing.specs.Expressions.{or_unfit, storage_of, kind_of, all_indexes, index_part}
+use Rattle.qt_typing.specs.Indexes.{IndexPart, Reached, all_indexes, reached, steps_from}
+use Rattle.qt_typing.specs.Expressions.{or_unfit, storage_of, kind_of, index_part}
 use Rattle.qt_typing.specs.Qubits.{outcomes_fit}
 
 unfoldable pub target_in : Names → Place → Storage → List IndexPart → Checked TypedTarget

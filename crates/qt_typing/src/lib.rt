@@ -9,6 +9,8 @@
 //! the definitions and the check of programs share. `proofs/examples` works small programs out.
 #![tactic(auto)]
 
+pub mod indexes;
 pub mod names;
 pub mod operand;
 pub mod state;
+pub mod way;

@@ -178,8 +178,8 @@ unfolding
     Environment.take_qubits Environment.span_from Environment.named_in Environment.declare Environment.declare_in_both
     Environment.is_global Environment.enter Environment.leave Conversions.is_same Conversions.converts Conversions.is_zero_at
     Conversions.zero_as Conversions.as_type Conversions.phase_as Conversions.phase_at Conversions.wanted Conversions.truth_at
-    Sorts.sort_of_named Sorts.is_variable Indexes.whole_index Indexes.fixed_place Indexes.single_index Indexes.places_between
-    Indexes.places_of_range Indexes.optional_number Indexes.range_places Indexes.bits_at Indexes.steps_from Indexes.element_from
+    Sorts.sort_of_named Sorts.is_variable Indexes.whole_index Indexes.fixed_place Indexes.placed_index Indexes.places_between
+    Indexes.places_of_range Indexes.optional_number Indexes.range_places Indexes.bit_at Indexes.slice_at Indexes.bits_at Indexes.steps_from Indexes.element_from
     Indexes.reached Operators.unary_row Operators.before_operand Operators.operator_form Operators.zero_beside Operators.phase_beside
     Operators.value_beside Operators.right_beside Operators.two_values Operators.phase_and_whole Operators.whole_and_phase
     Operators.phase_first Operators.phase_second Operators.combined Operators.logical_of Operators.both_true Expressions.of_constant
