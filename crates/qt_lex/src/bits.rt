@@ -7,7 +7,7 @@ ghost use Rattle.qt_lex.specs.Numbers.{IsDigits};
 ghost use Rattle.qt_lex.specs.Bits as spec;
 
 use crate::number::{Radix, goes_on, is_digit_of};
-use crate::scan::byte_at;
+use qt_scan::bytes::byte_at;
 
 /// Whether each place from one up to another holds a binary digit, or a `_` with a digit behind it.
 fn each_goes_on(text: &[u8], start: usize, end: usize) -> bool

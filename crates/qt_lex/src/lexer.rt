@@ -12,11 +12,10 @@ ghost use Rattle.qt_lex.specs.declared.tokens.LexRefusal.TheVariants as refusal;
 
 use crate::bits::is_long_bit_string;
 use crate::number::number_at;
-use crate::scan::{
-    byte_at, digits_end, is_blank, is_digit, is_name_start, letters_end, longest_in, word_end,
-};
 use crate::spellings::{CONSTANTS, EULER_SIGNS, RESERVED_WORDS, SYMBOLS};
 use crate::tokens::{Kind, LexRefusal, Token};
+use qt_scan::bytes::{byte_at, is_blank, is_digit, is_name_start};
+use qt_scan::runs::{digits_end, letters_end, longest_in, word_end};
 use qt_tree::place::Place;
 use std::alloc::Global;
 

@@ -8,9 +8,10 @@ ghost use Rattle.qt_lex.specs.Numbers as spec;
 ghost use Rattle.qt_lex.specs.Tokens.{LongestToken, NoToken};
 ghost use Rattle.qt_lex.specs.Answers.{prefix_of, is_decimal_byte, IsPreferred, IsLongestExponent, IsLongestDecimal, IsWithUnit};
 
-use crate::scan::{byte_at, digits_end, longest_in};
 use crate::spellings::{IMAGINARY_UNITS, TIME_UNITS};
 use crate::tokens::Kind;
+use qt_scan::bytes::byte_at;
+use qt_scan::runs::{digits_end, longest_in};
 
 /// The bases of whole numbers.
 #[derive(Clone, Copy, Debug)]

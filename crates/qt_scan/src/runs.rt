@@ -1,48 +1,9 @@
-//! Bytes at places and runs of bytes.
+//! Runs of bytes of one kind, and the texts of a table that stand at a place.
 
-ghost use Rattle.std.specs.Prelude.{◌≡◌, ◌+◌, ◌<◌, ◌≤◌, ℕ, true, false, length, map};
-ghost use Rattle.qt_lex.specs.Bytes as spec;
+ghost use Rattle.std.specs.Prelude.{◌≡◌, ◌+◌, ◌≤◌, true, false, length, map};
+ghost use Rattle.qt_scan.specs.Bytes as spec;
 
-/// The byte at a place, 0 behind the end.
-pub fn byte_at(text: &[u8], at: usize) -> u8
-    ensures byte { result ≡ spec.byte text.now at }
-    ensures within { 0 < result → at < length text.now }
-{
-    match text.get(at) {
-        Some(byte) => *byte,
-        None => 0,
-    }
-}
-
-pub fn is_digit(byte: u8) -> bool
-    ensures { result ≡ spec.is_digit byte }
-{
-    b'0' <= byte && byte <= b'9'
-}
-
-pub fn is_letter(byte: u8) -> bool
-    ensures { result ≡ spec.is_letter byte }
-{
-    (b'A' <= byte && byte <= b'Z') || (b'a' <= byte && byte <= b'z')
-}
-
-pub fn is_name_start(byte: u8) -> bool
-    ensures { result ≡ spec.is_name_start byte }
-{
-    is_letter(byte) || byte == b'_'
-}
-
-pub fn is_name_byte(byte: u8) -> bool
-    ensures { result ≡ spec.is_name_byte byte }
-{
-    is_name_start(byte) || is_digit(byte)
-}
-
-pub fn is_blank(byte: u8) -> bool
-    ensures { result ≡ spec.is_blank byte }
-{
-    byte == b' ' || (byte == b'\t' || (byte == b'\n' || byte == b'\r'))
-}
+use crate::bytes::{byte_at, is_digit, is_letter, is_name_byte};
 
 /// The first place from `at` on where no digit stands.
 pub fn digits_end(text: &[u8], at: usize) -> usize

@@ -1,6 +1,6 @@
 use Rattle.std.proofs.Common.{◌≡◌, ◌+◌, ◌≤◌, true, length}
-use Rattle.qt_lex.specs.Bytes.{byte, has_no_nul, stands}
-use Rattle.qt_lex.proofs.scan.stands.Given as goal
+use Rattle.qt_scan.specs.Bytes.{byte, has_no_nul, stands}
+use Rattle.qt_scan.proofs.runs.stands.Given as goal
 
 abbrev pub invariant-word : goal.invariant-word
 invariant-word l = record {

@@ -1,6 +1,6 @@
 use Rattle.std.proofs.Common.{◌≤◌, ◌-◌, length}
-use Rattle.qt_lex.specs.Bytes.{is_digit, byte, EachFrom}
-use Rattle.qt_lex.proofs.scan.digits_end.Given as goal
+use Rattle.qt_scan.specs.Bytes.{is_digit, byte, EachFrom}
+use Rattle.qt_scan.proofs.runs.digits_end.Given as goal
 
 abbrev pub invariant-end : goal.invariant-end
 invariant-end l = (l.at ≤ l.end) × (l.end ≤ length l.text) × EachFrom (byte l.text) is_digit l.at l.end

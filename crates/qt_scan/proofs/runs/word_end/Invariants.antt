@@ -1,6 +1,6 @@
 use Rattle.std.proofs.Common.{◌≤◌, ◌-◌, length}
-use Rattle.qt_lex.specs.Bytes.{is_name_byte, byte, EachFrom}
-use Rattle.qt_lex.proofs.scan.word_end.Given as goal
+use Rattle.qt_scan.specs.Bytes.{is_name_byte, byte, EachFrom}
+use Rattle.qt_scan.proofs.runs.word_end.Given as goal
 
 abbrev pub invariant-end : goal.invariant-end
 invariant-end l = (l.at ≤ l.end) × (l.end ≤ length l.text) × EachFrom (byte l.text) is_name_byte l.at l.end

@@ -1,6 +1,6 @@
 use Rattle.std.proofs.Common.{◌≡◌, ◌+◌, ◌≤◌, true, length, max, map}
-use Rattle.qt_lex.specs.Bytes.{byte, have_no_nul, longest_in}
-use Rattle.qt_lex.proofs.scan.longest_in.Given as goal
+use Rattle.qt_scan.specs.Bytes.{byte, have_no_nul, longest_in}
+use Rattle.qt_scan.proofs.runs.longest_in.Given as goal
 
 abbrev pub invariant-table : goal.invariant-table
 invariant-table l = record {
