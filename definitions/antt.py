@@ -421,8 +421,8 @@ def read_block(to, lines, indent, definitions):
 
 def read_item(to, item, indent, definitions):
     head = item[0].strip()
-    if head.startswith("use "):
-        read_use(to, head[4:])
+    if re.match(r"(pub )?use ", head):
+        read_use(to, head.partition("use ")[2])
     elif head.endswith("mutual"):
         read_block(to, item[1:], indent + 2, definitions)
     elif re.match(r"(pub )?data ", head):
@@ -503,7 +503,11 @@ def defined(of, name):
     if name in of.definitions:
         value = clauses_value(of, name, of.definitions[name], {})
         return value if value.arity else value.body()
-    if name in of.constructors or name[0].isupper():
+    if name in of.constructors:
+        return Made(name)
+    if name in of.imports:
+        return word(of.imports[name], name)
+    if name[0].isupper():
         return Made(name)
     raise NameError(f"{of.path}: {name}")
 

@@ -225,7 +225,7 @@ def multiplied(n, matrix, entries):
 
 SLOW = {
     "qt_registers.specs.Registers": {"progression": (3, progression)},
-    "qt_value.specs.Results": {"power": (2, power)},
+    "qt_bits.specs.Residues": {"power": (2, power)},
     "qt_ring.specs.Ring": {
         "nil": (0, NOTHING), "one": (0, ONE), "the_omega": (0, OMEGA), "imaginary": (0, Amplitude((0, 0, 1, 0))), "plus": (2, plus),
         "times": (2, times), "root": (1, root), "minus": (1, lambda x: Amplitude(-c for c in x)),
