@@ -11,6 +11,7 @@ use qt_const::casts::is_whole_zero;
 use qt_const::modes::Mode;
 use qt_const::value::{type_in, value_in};
 use qt_const_rules::constant::whole_number;
+use qt_const_rules::fault::ConstFault;
 use qt_outside::faults::OutOfMemory;
 use qt_phase::phase::Phase;
 use qt_tree::expression::{Expr, Scalar};
@@ -50,15 +51,22 @@ pub fn type_at(
     type_in(alloc, scalar, &names.consts, mode, place)
 }
 
+/// What is answered of a constant in a statement at that place.
+pub fn answer_at<T>(place: Place, answer: Result<T, ConstFault>) -> Result<T, TextRefusal>
+    ensures { result ≡ answer_at place answer }
+{
+    match answer {
+        Ok(found) => Ok(found),
+        Err(fault) => Err(fault.at(place)),
+    }
+}
+
 /// The whole number of a constant.
 fn whole_at(place: Place, constant: ConstValue) -> Result<i128, TextRefusal>
     ensures value { Gives (answer_at place (whole_number constant)) result }
     ensures small { IfOk result (λ z. unsigned_abs z < 2 ^ 64) }
 {
-    match whole_number(constant) {
-        Ok(number) => Ok(number),
-        Err(fault) => Err(fault.at(place)),
-    }
+    answer_at(place, whole_number(constant))
 }
 
 /// The whole number of a constant expression.

@@ -8,7 +8,7 @@ ghost use Rattle.qt_typing.specs.Checked.{Gives, and_then};
 ghost use Rattle.qt_typing.specs.Conversions.{as_type, converts, has_row, is_same, rescales, truth_at};
 ghost use Rattle.qt_typing.specs.Conversions.{phase_as, phase_at, value_form, wanted, zero_as};
 
-use crate::constants::{is_zero_at, phase_at};
+use crate::constants::{answer_at, is_zero_at, phase_at};
 use qt_const::casts::cast_to;
 use qt_const::modes::Mode;
 use qt_outside::faults::OutOfMemory;
@@ -177,10 +177,8 @@ pub fn phase_as(
     if !to.has_size() {
         return Err(TextRefusal::E10(place));
     }
-    match cast_to(to, ConstValue::Phase(phase)) {
-        Ok(value) => value_form(alloc, place, value),
-        Err(fault) => Err(fault.at(place)),
-    }
+    let value = answer_at(place, cast_to(to, ConstValue::Phase(phase)))?;
+    value_form(alloc, place, value)
 }
 
 /// A phase that has to be constant, as a value of a type.

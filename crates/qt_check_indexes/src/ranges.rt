@@ -8,7 +8,7 @@ ghost use Rattle.qt_typing.specs.Indexes as spec;
 ghost use Rattle.qt_tree.specs.declared.refusal.TextRefusal.TheVariants as refusal;
 ghost use Rattle.qt_check_indexes.specs.Slices.{IsWithin};
 
-use qt_check_expressions::constants::number_at;
+use qt_check_expressions::constants::{answer_at, number_at};
 use qt_const::modes::Mode;
 use qt_const_rules::fault::ConstFault;
 use qt_tree::expression::{Expr, Range};
@@ -36,10 +36,7 @@ pub(crate) fn place_at(place: Place, places: u64, index: i128) -> Result<u64, Te
     ensures value { Gives (answer_at place (place_in places index)) result }
     ensures below { IfOk result (λ n. n < places) }
 {
-    match place_in(places, index) {
-        Ok(found) => Ok(found),
-        Err(fault) => Err(fault.at(place)),
-    }
+    answer_at(place, place_in(places, index))
 }
 
 /// A step is positive.

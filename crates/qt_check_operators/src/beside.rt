@@ -8,7 +8,7 @@ ghost use Rattle.qt_typing.specs.Checked.{Gives};
 ghost use Rattle.qt_typing.specs.Conversions.{phase_at};
 ghost use Rattle.qt_typing.specs.Operators as spec;
 
-use qt_check_expressions::constants::{is_zero_at, phase_at};
+use qt_check_expressions::constants::{answer_at, is_zero_at, phase_at};
 use qt_check_expressions::convert::constant;
 use qt_const::modes::Mode;
 use qt_const_rules::angles::angle_of;
@@ -82,14 +82,12 @@ fn angle_beside(
     requires { IsTrue (has_size (kind.Angle width)) }
     ensures { Gives (spec.angle_beside place width row phase) result }
 {
-    match angle_of(width, phase) {
-        Ok(value) => Ok(Beside {
-            kind: ValueType::Angle(width),
-            form: constant(alloc, value)?,
-            result: row,
-        }),
-        Err(fault) => Err(fault.at(place)),
-    }
+    let value = answer_at(place, angle_of(width, phase))?;
+    Ok(Beside {
+        kind: ValueType::Angle(width),
+        form: constant(alloc, value)?,
+        result: row,
+    })
 }
 
 /// A phase that has to be constant beside an angle.
