@@ -19,6 +19,7 @@ pub fewer_in_brackets : (brackets : List (List Index)) → indexes_nodes (all_in
 fewer_in_brackets [] = omega arith
 fewer_in_brackets (indexes ∷ rest) =
     let e : indexes_nodes (indexes ++ all_indexes rest) ≡ indexes_nodes indexes + indexes_nodes (all_indexes rest) =
-    ap total (map-append index_nodes indexes (all_indexes rest)) ∙ total_append (map index_nodes indexes) (map index_nodes (all_indexes rest)) in
+    ap total (map-append index_nodes indexes (all_indexes rest)) ∙ total_append (map index_nodes indexes)
+    (map index_nodes (all_indexes rest)) in
     let h : indexes_nodes (all_indexes rest) ≤ brackets_nodes rest = fewer_in_brackets rest in
     omega (arith, e, h)

@@ -32,7 +32,8 @@ module _ (names : Names) (m : Mode) (place : Place) where
   steps_behind done kind (index ∷ rest) = from_bits (λ so_far of. steps_behind so_far of rest) (bits_at names m place kind index.shape)
     where
       from_bits : ((so_far : List TypedStep) (of : ValueType) → steps_from names m place so_far of rest
-          ≡ and_then (steps_from names m place [] of rest) (behind so_far)) → (c : Checked Bits) → and_then c (λ b. steps_from names m place (done ++ b.step ∷ []) b.kind rest)
+          ≡ and_then (steps_from names m place [] of rest) (behind so_far)) → (c : Checked Bits)
+          → and_then c (λ b. steps_from names m place (done ++ b.step ∷ []) b.kind rest)
           ≡ and_then (and_then c (λ b. steps_from names m place (b.step ∷ []) b.kind rest)) (behind done)
       from_bits later (Ok b) =
           later (done ++ b.step ∷ []) b.kind
@@ -57,7 +58,8 @@ module _ (names : Names) (m : Mode) (place : Place) where
   unfolding bits_of steps_from
   no_bits kind form = refl
 
-  pub more_bits : (kind : ValueType) (form : TypedExpr) (index : IndexPart) (rest : List IndexPart) → bits_of names m place kind form (index ∷ rest)
+  pub more_bits : (kind : ValueType) (form : TypedExpr) (index : IndexPart) (rest : List IndexPart) → bits_of names m place kind form
+      (index ∷ rest)
       ≡ and_then (bits_at names m place kind index.shape) (λ b. bits_of names m place b.kind (stepped form (b.step ∷ [])) rest)
   unfolding bits_of steps_from
   more_bits kind form index rest = from_bits (bits_at names m place kind index.shape)

@@ -1,11 +1,13 @@
 -- A part of a tree is written as it was: the typing of an expression keeps its tree.
-use Rattle.std.proofs.Common.{◌≡◌, List, [], ◌∷◌, Option, Some, None, map, refl, ap, sym, ◌∙◌, subst}
+use Rattle.std.proofs.Common.{◌≡◌, List, [], ◌∷◌, Option, Some, None, map, refl, ap, ◌∙◌, subst}
 use Rattle.qt_tree.specs.declared.expression.Expr.{Expr, roll-Expr}
 use Rattle.qt_tree.specs.declared.expression.Scalar.{Scalar, roll-Scalar}
 use Rattle.qt_tree.specs.declared.expression.Index.{Index, roll-Index}
 use Rattle.qt_tree.specs.declared.expression.Range.{Range, roll-Range}
 use Rattle.qt_tree.specs.declared.expression.Expr.TheOpen as o
-use Rattle.qt_tree.specs.declared.expression.Expr.TheFolds.{fold-Scalar, fold-Range, fold-roll-Expr, fold-roll-Index, fold-roll-Scalar, fold-roll-Range, ind-Expr, ind-Index, ind-Scalar, ind-Range, map-Expr, map-Index, map-Scalar, map-Range}
+use Rattle.qt_tree.specs.declared.expression.Expr.TheFolds.{fold-Scalar, fold-Range, fold-roll-Expr, fold-roll-Index}
+use Rattle.qt_tree.specs.declared.expression.Expr.TheFolds.{fold-roll-Scalar, fold-roll-Range, ind-Expr, ind-Index, ind-Scalar}
+use Rattle.qt_tree.specs.declared.expression.Expr.TheFolds.{ind-Range, map-Expr, map-Index, map-Scalar, map-Range}
 use Rattle.qt_tree.specs.declared.place.Place.{Place}
 use Rattle.qt_typing.specs.declared.names.Names.{Names}
 use Rattle.qt_typing.specs.Indexes.{Part, IndexPart}
@@ -21,16 +23,20 @@ module _ (names : Names) (place : Place) where
   -- ---- a tree by its layers
 
   abbrev pub parts : o.Expr-F Expr Index Scalar Range → o.Expr-F Part IndexPart Scalar Range
-  parts = map-Expr Expr Index Scalar Range Part IndexPart Scalar Range (part_of names place) (index_part names place) scalar_again range_again
+  parts = map-Expr Expr Index Scalar Range Part IndexPart Scalar Range (part_of names place) (index_part names place) scalar_again
+      range_again
 
   abbrev pub index_parts : o.Index-F Expr Index Scalar Range → o.Index-F Part IndexPart Scalar Range
-  index_parts = map-Index Expr Index Scalar Range Part IndexPart Scalar Range (part_of names place) (index_part names place) scalar_again range_again
+  index_parts = map-Index Expr Index Scalar Range Part IndexPart Scalar Range (part_of names place) (index_part names place) scalar_again
+      range_again
 
   abbrev scalar_parts : o.Scalar-F Expr Index Scalar Range → o.Scalar-F Part IndexPart Scalar Range
-  scalar_parts = map-Scalar Expr Index Scalar Range Part IndexPart Scalar Range (part_of names place) (index_part names place) scalar_again range_again
+  scalar_parts = map-Scalar Expr Index Scalar Range Part IndexPart Scalar Range (part_of names place) (index_part names place)
+      scalar_again range_again
 
   abbrev range_parts : o.Range-F Expr Index Scalar Range → o.Range-F Part IndexPart Scalar Range
-  range_parts = map-Range Expr Index Scalar Range Part IndexPart Scalar Range (part_of names place) (index_part names place) scalar_again range_again
+  range_parts = map-Range Expr Index Scalar Range Part IndexPart Scalar Range (part_of names place) (index_part names place) scalar_again
+      range_again
 
   pub expr_rolls : (layer : o.Expr-F Expr Index Scalar Range) → part_of names place (roll-Expr layer) ≡ expr_step names place (parts layer)
   expr_rolls = fold-roll-Expr Part IndexPart Scalar Range (expr_step names place) index_step scalar_step range_step
@@ -60,7 +66,8 @@ module _ (names : Names) (place : Place) where
 
   -- ---- each layer, where its parts are written as they were
 
-  module _ {A B C D : Type 0} (fa : A → Expr) (fb : B → Index) (fc : C → Scalar) (fd : D → Range) (ka : (a : A) → ExprAgain (fa a)) (kb : (b : B) → IndexAgain (fb b)) (kc : (c : C) → ScalarAgain (fc c)) (kd : (d : D) → RangeAgain (fd d)) where
+  module _ {A B C D : Type 0} (fa : A → Expr) (fb : B → Index) (fc : C → Scalar) (fd : D → Range) (ka : (a : A) → ExprAgain (fa a))
+      (kb : (b : B) → IndexAgain (fb b)) (kc : (c : C) → ScalarAgain (fc c)) (kd : (d : D) → RangeAgain (fd d)) where
     each_expr : (es : List A) → map (λ (p : Part). p.written) (map (part_of names place) (map fa es)) ≡ map fa es
     each_expr [] = refl
     each_expr (a ∷ es) =
@@ -69,9 +76,11 @@ module _ (names : Names) (place : Place) where
     each_index : (bs : List B) → map (λ (p : IndexPart). p.written) (map (index_part names place) (map fb bs)) ≡ map fb bs
     each_index [] = refl
     each_index (b ∷ bs) =
-        ap (λ t. t ∷ map (λ (p : IndexPart). p.written) (map (index_part names place) (map fb bs))) (kb b) ∙ ap (λ t. fb b ∷ t) (each_index bs)
+        ap (λ t. t ∷ map (λ (p : IndexPart). p.written) (map (index_part names place) (map fb bs))) (kb b)
+        ∙ ap (λ t. fb b ∷ t) (each_index bs)
 
-    each_bracket : (bs : List (List B)) → map (map (λ (p : IndexPart). p.written)) (map (map (index_part names place)) (map (map fb) bs)) ≡ map (map fb) bs
+    each_bracket : (bs : List (List B)) → map (map (λ (p : IndexPart). p.written)) (map (map (index_part names place)) (map (map fb) bs))
+        ≡ map (map fb) bs
     each_bracket [] = refl
     each_bracket (b ∷ bs) =
         ap (λ t. t ∷ map (map (λ (p : IndexPart). p.written)) (map (map (index_part names place)) (map (map fb) bs))) (each_index b)
@@ -99,7 +108,8 @@ module _ (names : Names) (place : Place) where
     index_again : (y : o.Index-F A B C D) → IndexAgain (roll-Index (map-Index A B C D Expr Index Scalar Range fa fb fc fd y))
     index_again (o.At a) = ap (λ (p : IndexPart). p.written) (index_rolls (o.At (fa a))) ∙ ap (λ t. roll-Index (o.At t)) (ka a)
     index_again (o.Range d) = ap (λ (p : IndexPart). p.written) (index_rolls (o.Range (fd d))) ∙ ap (λ t. roll-Index (o.Range t)) (kd d)
-    index_again (o.Set es) = ap (λ (p : IndexPart). p.written) (index_rolls (o.Set (map fa es))) ∙ ap (λ t. roll-Index (o.Set t)) (each_expr es)
+    index_again (o.Set es) = ap (λ (p : IndexPart). p.written) (index_rolls (o.Set (map fa es))) ∙ ap (λ t. roll-Index (o.Set t))
+        (each_expr es)
 
     same_scalar : (y : o.Scalar-F A B C D) → ScalarAgain (roll-Scalar (map-Scalar A B C D Expr Index Scalar Range fa fb fc fd y))
     same_scalar o.Scalar::Bool = scalar_rolls o.Scalar::Bool
@@ -126,13 +136,16 @@ module _ (names : Names) (place : Place) where
     bound_again None = refl
     bound_again (Some a) = ap Some (ka a)
 
-    bounds_again : (start step end : Option A) → roll-Range (record { start = again_if start; step = again_if step; end = again_if end }) ≡ roll-Range (record { start = bound start; step = bound step; end = bound end })
+    bounds_again : (start step end : Option A) → roll-Range (record { start = again_if start; step = again_if step; end = again_if end })
+        ≡ roll-Range (record { start = bound start; step = bound step; end = bound end })
     bounds_again start step end =
         ap (λ t. roll-Range (record { start = t; step = again_if step; end = again_if end })) (bound_again start)
         ∙ (ap (λ t. roll-Range (record { start = bound start; step = t; end = again_if end })) (bound_again step)
         ∙ ap (λ t. roll-Range (record { start = bound start; step = bound step; end = t })) (bound_again end))
 
-    same_bounds : (start step end : Option A) → RangeAgain (roll-Range (map-Range A B C D Expr Index Scalar Range fa fb fc fd (record { start = start; step = step; end = end })))
+    same_bounds : (start step end : Option A)
+        → RangeAgain (roll-Range (map-Range A B C D Expr Index Scalar Range fa fb fc fd
+        (record { start = start; step = step; end = end })))
     unfolding again_if bound
     same_bounds None None None = range_rolls (record { start = None; step = None; end = None }) ∙ bounds_again None None None
     same_bounds None None (Some c) = range_rolls (record { start = None; step = None; end = Some (fa c) }) ∙ bounds_again None None (Some c)
@@ -164,21 +177,33 @@ module _ (names : Names) (place : Place) where
   abbrev ShownRange : Type 0
   ShownRange = (range : Range) × RangeAgain range
 
-  expr_shown : (y : o.Expr-F Expr Index Scalar Range) (z : o.Expr-F ShownExpr ShownIndex ShownScalar ShownRange) → map-Expr ShownExpr ShownIndex ShownScalar ShownRange Expr Index Scalar Range (λ p. p.0) (λ p. p.0) (λ p. p.0) (λ p. p.0) z ≡ y → ExprAgain (roll-Expr y)
+  expr_shown : (y : o.Expr-F Expr Index Scalar Range) (z : o.Expr-F ShownExpr ShownIndex ShownScalar ShownRange)
+      → map-Expr ShownExpr ShownIndex ShownScalar ShownRange Expr Index Scalar Range (λ p. p.0) (λ p. p.0) (λ p. p.0) (λ p. p.0) z ≡ y
+      → ExprAgain (roll-Expr y)
   expr_shown y z is =
-      subst (λ t. ExprAgain (roll-Expr t)) is (expr_again (λ p. p.0) (λ p. p.0) (λ p. p.0) (λ p. p.0) (λ p. p.1) (λ p. p.1) (λ p. p.1) (λ p. p.1) z)
+      subst (λ t. ExprAgain (roll-Expr t)) is (expr_again (λ p. p.0) (λ p. p.0) (λ p. p.0) (λ p. p.0) (λ p. p.1) (λ p. p.1) (λ p. p.1)
+      (λ p. p.1) z)
 
-  index_shown : (y : o.Index-F Expr Index Scalar Range) (z : o.Index-F ShownExpr ShownIndex ShownScalar ShownRange) → map-Index ShownExpr ShownIndex ShownScalar ShownRange Expr Index Scalar Range (λ p. p.0) (λ p. p.0) (λ p. p.0) (λ p. p.0) z ≡ y → IndexAgain (roll-Index y)
+  index_shown : (y : o.Index-F Expr Index Scalar Range) (z : o.Index-F ShownExpr ShownIndex ShownScalar ShownRange)
+      → map-Index ShownExpr ShownIndex ShownScalar ShownRange Expr Index Scalar Range (λ p. p.0) (λ p. p.0) (λ p. p.0) (λ p. p.0) z ≡ y
+      → IndexAgain (roll-Index y)
   index_shown y z is =
-      subst (λ t. IndexAgain (roll-Index t)) is (index_again (λ p. p.0) (λ p. p.0) (λ p. p.0) (λ p. p.0) (λ p. p.1) (λ p. p.1) (λ p. p.1) (λ p. p.1) z)
+      subst (λ t. IndexAgain (roll-Index t)) is
+      (index_again (λ p. p.0) (λ p. p.0) (λ p. p.0) (λ p. p.0) (λ p. p.1) (λ p. p.1) (λ p. p.1) (λ p. p.1) z)
 
-  scalar_shown : (y : o.Scalar-F Expr Index Scalar Range) (z : o.Scalar-F ShownExpr ShownIndex ShownScalar ShownRange) → map-Scalar ShownExpr ShownIndex ShownScalar ShownRange Expr Index Scalar Range (λ p. p.0) (λ p. p.0) (λ p. p.0) (λ p. p.0) z ≡ y → ScalarAgain (roll-Scalar y)
+  scalar_shown : (y : o.Scalar-F Expr Index Scalar Range) (z : o.Scalar-F ShownExpr ShownIndex ShownScalar ShownRange)
+      → map-Scalar ShownExpr ShownIndex ShownScalar ShownRange Expr Index Scalar Range (λ p. p.0) (λ p. p.0) (λ p. p.0) (λ p. p.0) z ≡ y
+      → ScalarAgain (roll-Scalar y)
   scalar_shown y z is =
-      subst (λ t. ScalarAgain (roll-Scalar t)) is (same_scalar (λ p. p.0) (λ p. p.0) (λ p. p.0) (λ p. p.0) (λ p. p.1) (λ p. p.1) (λ p. p.1) (λ p. p.1) z)
+      subst (λ t. ScalarAgain (roll-Scalar t)) is
+      (same_scalar (λ p. p.0) (λ p. p.0) (λ p. p.0) (λ p. p.0) (λ p. p.1) (λ p. p.1) (λ p. p.1) (λ p. p.1) z)
 
-  range_shown : (y : o.Range-F Expr Index Scalar Range) (z : o.Range-F ShownExpr ShownIndex ShownScalar ShownRange) → map-Range ShownExpr ShownIndex ShownScalar ShownRange Expr Index Scalar Range (λ p. p.0) (λ p. p.0) (λ p. p.0) (λ p. p.0) z ≡ y → RangeAgain (roll-Range y)
+  range_shown : (y : o.Range-F Expr Index Scalar Range) (z : o.Range-F ShownExpr ShownIndex ShownScalar ShownRange)
+      → map-Range ShownExpr ShownIndex ShownScalar ShownRange Expr Index Scalar Range (λ p. p.0) (λ p. p.0) (λ p. p.0) (λ p. p.0) z ≡ y
+      → RangeAgain (roll-Range y)
   range_shown y z is =
-      subst (λ t. RangeAgain (roll-Range t)) is (same_range (λ p. p.0) (λ p. p.0) (λ p. p.0) (λ p. p.0) (λ p. p.1) (λ p. p.1) (λ p. p.1) (λ p. p.1) z)
+      subst (λ t. RangeAgain (roll-Range t)) is
+      (same_range (λ p. p.0) (λ p. p.0) (λ p. p.0) (λ p. p.0) (λ p. p.1) (λ p. p.1) (λ p. p.1) (λ p. p.1) z)
 
   pub expr_written : (expr : Expr) → ExprAgain expr
   expr_written = ind-Expr ExprAgain IndexAgain ScalarAgain RangeAgain expr_shown index_shown scalar_shown range_shown
@@ -202,7 +227,8 @@ module _ (names : Names) (place : Place) where
   pub bracket_written : (bs : List Index) → map (λ (p : IndexPart). p.written) (map (index_part names place) bs) ≡ bs
   bracket_written [] = refl
   bracket_written (b ∷ bs) =
-      ap (λ t. t ∷ map (λ (p : IndexPart). p.written) (map (index_part names place) bs)) (index_written b) ∙ ap (λ t. b ∷ t) (bracket_written bs)
+      ap (λ t. t ∷ map (λ (p : IndexPart). p.written) (map (index_part names place) bs)) (index_written b)
+      ∙ ap (λ t. b ∷ t) (bracket_written bs)
 
   pub brackets_written : (bs : List (List Index)) → map (map (λ (p : IndexPart). p.written)) (map (map (index_part names place)) bs) ≡ bs
   brackets_written [] = refl

@@ -1,7 +1,6 @@
 -- A part of a tree beside how it is written, and what indexes lead to (OpenQASM 3.0 live specification, "Index sets and slicing"; Cross
 -- et al. 2022).
-use Rattle.std.specs.Prelude.{◌≡◌, ◌≢◌, List, map, Result, Ok, Err}
-use Rattle.qt_const_rules.specs.declared.modes.Mode.{Mode}
+use Rattle.std.specs.Prelude.{◌≡◌, ◌≢◌, List, map, Ok, Err}
 use Rattle.qt_tree.specs.declared.expression.Expr.{Expr}
 use Rattle.qt_tree.specs.declared.expression.Index.{Index}
 use Rattle.qt_tree.specs.declared.place.Place.{Place}

@@ -45,7 +45,9 @@ use qt_value::types::ValueType;
 use sqlite_items::{Boxed, Items};
 use std::alloc::Global;
 
-/// The typing of an expression, or its first refusal from left to right.
+/// The typing of an expression in a statement at that place, which is reckoned in that mode, or its first refusal from left to right: E8
+/// of a name that isn't in scope or has no value, E10 where types don't fit, E11 of a subroutine's call, E12 of what isn't constant, exact
+/// or in range, E14 of another number of arguments. OpenQASM 3.0, "Types and Casting" and "Classical instructions".
 #[cycle(typed)]
 #[tactic(auto, using(crate::proofs::PartViews::expressions))]
 pub fn typed(
@@ -208,7 +210,9 @@ fn as_cast(
     written: &Expr,
     of: Operand,
 ) -> Result<Operand, TextRefusal>
-    ensures { Gives (and_then (wanted way.Written names.now mode place to written.now of) (λ form. Ok (operand_form.Value to form))) result }
+    ensures { Gives
+        (and_then (wanted way.Written names.now mode place to written.now of) (λ form. Ok (operand_form.Value to form)))
+        result }
 {
     let form = wanted(alloc, Way::Written, names, mode, place, to, written, of)?;
     Ok(Operand::Value { kind: to, form })
@@ -310,7 +314,8 @@ fn constant_bits(
     left: IndexesLeft<'_>,
 ) -> Result<Operand, TextRefusal>
     ensures { Gives
-        (and_then (spec.named_constant names.now place name.now) (spec.constant_bits names.now mode place (index_parts names.now place left.entry)))
+        (and_then (spec.named_constant names.now place name.now)
+        (spec.constant_bits names.now mode place (index_parts names.now place left.entry)))
         result }
 {
     match named_constant(alloc, names, place, name)? {
@@ -341,7 +346,8 @@ fn variable_operand(
     bits_of(alloc, names, mode, place, kind, form, left)
 }
 
-/// The variable, or the element of an array, whose indexes are the first.
+/// The variable, or the element of an array, whose indexes are the first of those that are left: one for each dimension. E10 where there
+/// are fewer, or one is no whole number; E12 `range` of a constant one outside of its dimension. OpenQASM 3.0, "Types and Casting", arrays.
 #[cycle(typed)]
 #[tactic(auto, unfolding(qt_typing::specs::Indexes::reached))]
 pub fn reached(
@@ -470,7 +476,8 @@ fn bits_at(
     }
 }
 
-/// The steps to the bits of a value of a type: each index applies to the bits that are left.
+/// The steps to the bits of a value of a type: each index applies to the bits that are left. E10 of what has no places, of an index that is
+/// no whole number, and of a set; E12 of a constant index or a range outside. OpenQASM 3.0, "Index sets and slicing".
 #[tactic(auto, unfolding(qt_typing::specs::Indexes::steps_from))]
 pub fn steps_from(
     alloc: Global,
@@ -492,7 +499,8 @@ pub fn steps_from(
     Ok(Steps { steps, kind })
 }
 
-/// An expression where a value of a type is wanted.
+/// An expression where a value of a type is wanted, or its first refusal; E10 where no conversion fits, E12 `exact` of a phase that is no
+/// whole number of an angle's steps. OpenQASM 3.0, "Types and Casting".
 #[tactic(auto, unfolding(qt_typing::specs::Expressions::value_at))]
 pub fn value_at(
     alloc: Global,

@@ -16,7 +16,7 @@ use qt_typing::names::Names;
 use qt_value::constant::ConstValue;
 use std::alloc::Global;
 
-/// The refusal of a name that has no value.
+/// The refusal of a name that has no value: E8, or want of memory for the name.
 pub fn unfit(alloc: Global, place: Place, name: &Label) -> TextRefusal
     ensures { result ≢ refusal.OutOfMemory → result ≡ refusal.E8 place name.now }
 {

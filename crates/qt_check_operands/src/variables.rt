@@ -26,7 +26,7 @@ fn storage_at(alloc: Global, it: &Named) -> Result<Option<Storage>, OutOfMemory>
     }
 }
 
-/// Where a variable, a parameter that is one, or an input is kept. A constant has no slot.
+/// Where a variable, a parameter that is one, or an input is kept. A constant has no slot, and nothing else is kept.
 #[tactic(auto, unfolding(qt_typing::specs::Expressions::storage_of))]
 pub fn storage_of(alloc: Global, it: &Named) -> Result<Option<Storage>, OutOfMemory>
     ensures { IfOk result (λ storage. storage ≡ spec.storage_of it.now) }
