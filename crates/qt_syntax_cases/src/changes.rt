@@ -1,63 +1,49 @@
 //! Rows of texts in whose tokens one is changed, each in turn.
 
 use crate::LONGEST;
-use crate::answer::Answer;
 use crate::reading::answer_outcome;
 use qt_lex::lexer::lex;
 use qt_lex::tokens::{Kind, Token};
-use std::alloc::{AllocError, Global};
+use qt_rows::answer::Answer;
+use qt_rows::row::Row;
+use std::alloc::Global;
 
-/// The first tokens, and then the end of the text at the place of the next.
-fn ended(alloc: Global, tokens: &[Token], count: usize) -> Result<Vec<Token>, AllocError> {
-    let mut ended = Vec::from_slice(alloc, tokens)?;
-    if let Some(next) = ended.get_mut(count) {
-        next.kind = Kind::End;
+/// The outcome of the first tokens of a text, with the end of the text at the place of the last of them, and a `;`.
+fn write_ended(alloc: Global, text: &str, tokens: &[Token], answer: &mut Answer) {
+    if let Some(mut tokens) = answer.given(Vec::from_slice(alloc, tokens)) {
+        if let Some(last) = tokens.last_mut() {
+            last.kind = Kind::End;
+        }
+        answer_outcome(alloc, text, &tokens, answer);
     }
-    ended.truncate(count.saturating_add(1));
-    Ok(ended)
-}
-
-/// The outcome of some tokens of a text, with a `;`.
-fn write_outcome(
-    alloc: Global,
-    text: &str,
-    tokens: Result<Vec<Token>, AllocError>,
-    answer: &mut Answer,
-) {
-    match tokens {
-        Ok(tokens) => answer_outcome(alloc, text, &tokens, answer),
-        Err(_) => answer.give_up(),
-    }
-    answer.put(";");
+    answer.push_str(";");
 }
 
 /// `ended: TEXT`: the outcome of the first tokens alone, for each number of them.
 pub fn answer_ended(alloc: Global, text: &str, tokens: &[Token], answer: &mut Answer) {
     for count in 0..tokens.len() {
-        write_outcome(alloc, text, ended(alloc, tokens, count), answer);
+        write_ended(alloc, text, &tokens[..=count], answer);
     }
 }
 
-/// The tokens with another at the place of one of them.
-fn changed(
+/// The outcome of the tokens of a text with another in place of one of them, and a `;`.
+fn write_changed(
     alloc: Global,
+    text: &str,
     tokens: &[Token],
     at: usize,
     other: Token,
-) -> Result<Vec<Token>, AllocError> {
-    let mut changed = Vec::from_slice(alloc, tokens)?;
-    if let Some(token) = changed.get_mut(at) {
-        token.kind = other.kind;
-        token.start = other.start;
-        token.end = other.end;
+    answer: &mut Answer,
+) {
+    if let Some(mut tokens) = answer.given(Vec::from_slice(alloc, tokens)) {
+        if let Some(token) = tokens.get_mut(at) {
+            token.kind = other.kind;
+            token.start = other.start;
+            token.end = other.end;
+        }
+        answer_outcome(alloc, text, &tokens, answer);
     }
-    Ok(changed)
-}
-
-fn write_changed(alloc: Global, text: &str, tokens: &[Token], other: Token, answer: &mut Answer) {
-    for at in 0..tokens.len() {
-        write_outcome(alloc, text, changed(alloc, tokens, at, other), answer);
-    }
+    answer.push_str(";");
 }
 
 /// The last token of a text before its end.
@@ -72,17 +58,20 @@ fn last_of(alloc: Global, text: &str) -> Option<Token> {
 /// `changed SPELLING: TEXT`: the outcome of the text with each of its tokens in turn replaced by the one of that spelling.
 pub fn answer_changed(
     alloc: Global,
-    spelling: &str,
+    row: &mut Row<'_>,
     text: &str,
     tokens: &[Token],
     answer: &mut Answer,
 ) {
+    let spelling = row.word();
     // The other token stands on a line of its own behind the text, so that it has a spelling.
-    let Ok(text) = format!(in alloc; "{text}\n{spelling}") else {
-        return answer.give_up();
+    let Some(text) = answer.given(format!(in alloc; "{text}\n{spelling}")) else {
+        return;
     };
-    match last_of(alloc, &text) {
-        Some(other) => write_changed(alloc, &text, tokens, other, answer),
-        None => answer.put("no row"),
+    let Some(other) = last_of(alloc, &text) else {
+        return row.refuse();
+    };
+    for at in 0..tokens.len() {
+        write_changed(alloc, &text, tokens, at, other, answer);
     }
 }

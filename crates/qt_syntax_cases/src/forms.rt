@@ -1,10 +1,8 @@
 //! Rows of expressions and of the forms that hold them.
 
-ghost use Rattle.std.specs.Prelude.{◌≤◌, IfSome};
+ghost use Rattle.std.specs.Prelude.{◌≤◌};
 ghost use Rattle.qt_grammar.specs.Spelling.{language_limits};
 
-use crate::answer::Answer;
-use crate::expressions::write_expr;
 use crate::reading::write_refusal;
 use qt_expr::expression::{
     all_indexes, arguments, expression, expressions, in_parentheses, index, indexes, range, scalar,
@@ -15,43 +13,55 @@ use qt_expr::parse_expr::parse_expr;
 use qt_grammar::maximum::{MOST_LEVELS, most_levels};
 use qt_grammar::refusal::Refusal;
 use qt_lex::tokens::Token;
+use qt_lookahead::refusal::ParseRefusal;
+use qt_rows::answer::Answer;
+use qt_rows::row::Row;
 use qt_terminals::stream::TokenStream;
+use qt_tree_text::tree::Tree;
 use std::alloc::Global;
-use std::str::SplitWhitespace;
-
-fn usize_in(words: &mut SplitWhitespace) -> Option<usize> {
-    words.next()?.parse::<usize>().ok()
-}
 
 /// A depth at which a token may stand.
-fn depth_in(words: &mut SplitWhitespace) -> Option<u32>
-    ensures { IfSome result (λ depth. depth ≤ language_limits.levels) }
+fn depth_in(row: &mut Row<'_>) -> u32
+    ensures { result ≤ language_limits.levels }
 {
-    let depth = words.next()?.parse::<u32>().ok()?;
+    let depth = row.u32();
     if depth as usize > most_levels() {
-        return None;
+        row.refuse();
+        return 0;
     }
-    Some(depth)
+    depth
+}
+
+fn write_tree<T: Tree>(tree: &T, behind: usize, answer: &mut Answer) {
+    write!(answer, "{behind}");
+    tree.write(answer);
+}
+
+fn write_before<T: Tree + Drop>(found: Result<(T, usize), ParseRefusal>, answer: &mut Answer) {
+    match found {
+        Ok((tree, behind)) => write_tree(&tree, behind, answer),
+        Err(refusal) => write_refusal(refusal, answer),
+    }
 }
 
 /// `expr AT DEPTH: TEXT`: the number of the token behind the expression that begins at a token of that depth, and its tree; or the
 /// refusal.
 pub fn answer_expr(
     alloc: Global,
-    words: &mut SplitWhitespace,
+    row: &mut Row<'_>,
     text: &str,
     tokens: &[Token],
     answer: &mut Answer,
 ) {
-    let (Some(at), Some(depth)) = (usize_in(words), depth_in(words)) else {
-        return answer.put("no row");
-    };
-    match parse_expr(alloc, text, tokens, at, depth) {
-        Ok((expr, behind)) => {
-            write!(answer, "{behind}");
-            write_expr(answer, &expr);
-        }
-        Err(refusal) => write_refusal(answer, refusal),
+    let (at, depth) = (row.usize(), depth_in(row));
+    write_before(parse_expr(alloc, text, tokens, at, depth), answer);
+}
+
+/// The number of the token behind what was read.
+fn behind_of<T: Drop, E>(found: Result<(T, usize), E>) -> Result<usize, E> {
+    match found {
+        Ok((_, behind)) => Ok(behind),
+        Err(refusal) => Err(refusal),
     }
 }
 
@@ -60,17 +70,9 @@ pub fn answer_beginnings(alloc: Global, text: &str, tokens: &[Token], answer: &m
     for count in 0..tokens.len() {
         match behind_of(parse_expr(alloc, text, &tokens[..count], 0, 0)) {
             Ok(behind) => write!(answer, " {behind}"),
-            Err(refusal) => write_refusal(answer, refusal),
+            Err(refusal) => write_refusal(refusal, answer),
         }
-        answer.put(";");
-    }
-}
-
-/// The number of the token behind what was read.
-fn behind_of<T: Drop, E>(found: Result<(T, usize), E>) -> Result<usize, E> {
-    match found {
-        Ok((_, behind)) => Ok(behind),
-        Err(refusal) => Err(refusal),
+        answer.push_str(";");
     }
 }
 
@@ -100,23 +102,25 @@ fn behind_form(
     }
 }
 
+fn write_behind(behind: Result<usize, Refusal>, answer: &mut Answer) {
+    match behind {
+        Ok(behind) => write!(answer, "{behind}"),
+        Err(Refusal::OutOfMemory) => answer.lose(),
+        Err(refusal) => write!(answer, "{refusal:?}"),
+    }
+}
+
 /// `form NAME AT: TEXT`: the number of the token behind a form that begins at a token, or the number of the token at fault.
 pub fn answer_form(
     alloc: Global,
-    words: &mut SplitWhitespace,
+    row: &mut Row<'_>,
     text: &str,
     tokens: &[Token],
     answer: &mut Answer,
 ) {
-    let (Some(form), Some(at)) = (words.next(), usize_in(words)) else {
-        return answer.put("no row");
-    };
-    let Ok(stream) = TokenStream::new(alloc, text, tokens) else {
-        return answer.give_up();
-    };
-    match behind_form(alloc, form, &stream, at) {
-        Ok(behind) => write!(answer, "{behind}"),
-        Err(Refusal::OutOfMemory) => answer.give_up(),
-        Err(refusal) => write!(answer, "{refusal:?}"),
+    let (form, at) = (row.word(), row.usize());
+    match TokenStream::new(alloc, text, tokens) {
+        Ok(stream) => write_behind(behind_form(alloc, form, &stream, at), answer),
+        Err(_) => answer.lose(),
     }
 }

@@ -1,50 +1,52 @@
 //! Rows of whole texts: their programs, or why they have none.
 
-use crate::answer::Answer;
-use crate::programs::write_program;
 use crate::refusals::write_line;
 use qt_lex::tokens::Token;
 use qt_lookahead::refusal::ParseRefusal;
 use qt_parse::parser::parse;
 use qt_read::read::read;
+use qt_rows::answer::Answer;
+use qt_rows::row::Row;
+use qt_tree_text::programs::{drop_program, write_program};
+use qt_tree_text::tree::{write_place, write_placed};
 use std::alloc::Global;
 
 /// A refusal with its place.
-pub fn write_refusal(answer: &mut Answer, refusal: ParseRefusal) {
+pub fn write_refusal(refusal: ParseRefusal, answer: &mut Answer) {
     match refusal {
-        ParseRefusal::Syntax(place) => answer.put_placed(" Syntax", place),
-        ParseRefusal::Nest(place) => answer.put_placed(" Nest", place),
+        ParseRefusal::Syntax(place) => write_placed(" Syntax", place, answer),
+        ParseRefusal::Nest(place) => write_placed(" Nest", place, answer),
         ParseRefusal::NotInProfile(place, feature) => {
             write!(answer, " NotInProfile {feature:?}");
-            answer.put_place(place);
+            write_place(place, answer);
         }
-        ParseRefusal::OutOfMemory => answer.give_up(),
+        ParseRefusal::OutOfMemory => answer.lose(),
     }
 }
 
 /// `parse: TEXT`: the tree of a program, or the refusal.
 pub fn answer_parse(alloc: Global, text: &str, tokens: &[Token], answer: &mut Answer) {
     match parse(alloc, text, tokens) {
-        Ok(program) => write_program(answer, &program),
-        Err(refusal) => write_refusal(answer, refusal),
+        Ok(program) => write_program(program, answer),
+        Err(refusal) => write_refusal(refusal, answer),
     }
 }
 
 /// `outcome: TEXT`: whether tokens are those of a program, or the refusal.
 pub fn answer_outcome(alloc: Global, text: &str, tokens: &[Token], answer: &mut Answer) {
-    match parse(alloc, text, tokens).err() {
-        Some(refusal) => write_refusal(answer, refusal),
-        None => answer.put(" program"),
+    match parse(alloc, text, tokens) {
+        Ok(program) => {
+            drop_program(program);
+            answer.push_str(" program");
+        }
+        Err(refusal) => write_refusal(refusal, answer),
     }
 }
 
 /// `read FILE: TEXT`: the tree of the program of the text with that number, or the line of its refusal.
-pub fn answer_read(alloc: Global, file: &str, text: &[u8], answer: &mut Answer) {
-    let Ok(number) = file.parse::<u16>() else {
-        return answer.put("no row");
-    };
-    match read(alloc, "p.qasm", number, text) {
-        Ok(program) => write_program(answer, &program),
+pub fn answer_read(alloc: Global, row: &mut Row<'_>, text: &[u8], answer: &mut Answer) {
+    match read(alloc, "p.qasm", row.u16(), text) {
+        Ok(program) => write_program(program, answer),
         Err(refusal) => write_line(alloc, &refusal, answer),
     }
 }

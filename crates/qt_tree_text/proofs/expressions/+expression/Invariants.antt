@@ -1,5 +1,5 @@
 use Rattle.std.proofs.Common.{◌+◌, ◌*◌}
-use Rattle.qt_syntax_cases.proofs.expressions.+expression.Given as goal
+use Rattle.qt_tree_text.proofs.expressions.+expression.Given as goal
 
 -- the depth of what is written, and within a depth who calls whom
 abbrev pub decreases-write_expr : goal.decreases-write_expr
@@ -20,8 +20,8 @@ decreases-write_exprs l = 4 * goal.size-write_exprs l + 1
 abbrev pub decreases-write_boxed : goal.decreases-write_boxed
 decreases-write_boxed l = 4 * goal.size-write_boxed l + 1
 
-abbrev pub decreases-write_part : goal.decreases-write_part
-decreases-write_part l = 4 * goal.size-write_part l + 1
+abbrev pub decreases-write_end : goal.decreases-write_end
+decreases-write_end l = 4 * goal.size-write_end l + 1
 
 abbrev pub decreases-write_indexes : goal.decreases-write_indexes
 decreases-write_indexes l = 4 * goal.size-write_indexes l + 1
