@@ -1,3 +1,4 @@
 pub mod Parser
 pub mod Nested
 pub mod Answers
+pub mod Growth

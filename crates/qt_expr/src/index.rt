@@ -9,6 +9,7 @@ ghost use Rattle.qt_grammar.specs.Outcome.{Says};
 ghost use Rattle.qt_expr.specs.Nested.{Nests};
 ghost use Rattle.qt_expr.specs.Parser.{read_all_indexes, read_behind_start, read_bounds, read_bounds_or_none, read_index, read_index_form, read_index_list, read_indexes, read_last_bound, read_place_or_range, read_range, read_range_form, rest_separated, rest_some};
 
+use crate::grown::{appended, begun};
 use crate::reader::Reader;
 use qt_grammar::refusal::Refusal;
 use qt_lookahead::begins::{begins_expression, begins_index};
@@ -228,9 +229,7 @@ impl<
         requires { Nests nesting.levels (F.pre self.now.operation) (F.post self.now.operation) }
         ensures { Says (read_index_list tokens.now nesting.levels nesting.outer at) result }
     {
-        let (first, at) = self.index(tokens, nesting, at)?;
-        let mut all = Items::new(self.alloc);
-        all.push(first)?;
+        let (all, at) = begun(self.alloc, self.index(tokens, nesting, at))?;
         self.more_of_index_list(tokens, nesting, at, all)
     }
 
@@ -252,9 +251,7 @@ impl<
             if !next_is(tokens, at, Terminal::Comma) {
                 return Ok((all, at));
             }
-            let (next, behind) = self.index(tokens, nesting, behind(tokens, at))?;
-            all.push(next)?;
-            at = behind;
+            at = appended(&mut all, self.index(tokens, nesting, behind(tokens, at)))?;
         }
         Ok((all, at))
     }
@@ -286,9 +283,7 @@ impl<
         requires { Nests nesting.levels (F.pre self.now.operation) (F.post self.now.operation) }
         ensures { Says (read_all_indexes tokens.now nesting.levels nesting.outer at) result }
     {
-        let (first, at) = self.indexes(tokens, nesting, at)?;
-        let mut all = Items::new(self.alloc);
-        all.push(first)?;
+        let (all, at) = begun(self.alloc, self.indexes(tokens, nesting, at))?;
         self.more_of_all_indexes(tokens, nesting, at, all)
     }
 
@@ -310,9 +305,7 @@ impl<
             if !next_is(tokens, at, Terminal::LeftBracket) {
                 return Ok((all, at));
             }
-            let (next, behind) = self.indexes(tokens, nesting, at)?;
-            all.push(next)?;
-            at = behind;
+            at = appended(&mut all, self.indexes(tokens, nesting, at))?;
         }
         Ok((all, at))
     }

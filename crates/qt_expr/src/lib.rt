@@ -12,6 +12,7 @@
 
 mod binary;
 pub mod expression;
+pub mod grown;
 mod index;
 mod literal;
 pub mod names;

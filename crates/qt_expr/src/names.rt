@@ -6,6 +6,7 @@ ghost use Rattle.qt_terminals.specs.declared.terminal.Terminal.TheVariants as w;
 ghost use Rattle.qt_grammar.specs.Outcome.{Says};
 ghost use Rattle.qt_expr.specs.Parser.{read_label, read_names, rest_separated};
 
+use crate::grown::{appended, begun};
 use qt_grammar::refusal::Refusal;
 use qt_lookahead::one_token::{behind, exactly, next_is};
 use qt_terminals::stream::TokenStream;
@@ -33,9 +34,7 @@ pub fn names(
 ) -> Result<(Items<Label>, usize), Refusal>
     ensures { Says (read_names tokens.now at) result }
 {
-    let (first, at) = label(alloc, tokens, at)?;
-    let mut all = Items::new(alloc);
-    all.push(first)?;
+    let (all, at) = begun(alloc, label(alloc, tokens, at))?;
     more_names(alloc, tokens, at, all)
 }
 
@@ -55,9 +54,7 @@ fn more_names(
         if !next_is(tokens, at, Terminal::Comma) {
             return Ok((all, at));
         }
-        let (next, behind) = label(alloc, tokens, behind(tokens, at))?;
-        all.push(next)?;
-        at = behind;
+        at = appended(&mut all, label(alloc, tokens, behind(tokens, at)))?;
     }
     Ok((all, at))
 }

@@ -9,6 +9,7 @@ ghost use Rattle.qt_grammar.specs.Outcome.{Says};
 ghost use Rattle.qt_expr.specs.Nested.{Nests};
 ghost use Rattle.qt_expr.specs.Parser.{read_any, read_arguments, read_expression, read_expression_or_none, read_expressions, read_in_parentheses, read_list, read_list_or_none, read_members, read_set, read_size, read_unary, rest_separated};
 
+use crate::grown::{appended, begun};
 use qt_grammar::refusal::Refusal;
 use qt_lookahead::begins::begins_expression;
 use qt_lookahead::nesting::{Nesting, too_deep};
@@ -76,9 +77,7 @@ impl<
         requires { Nests (nesting.levels + 1) (F.pre self.now.operation) (F.post self.now.operation) }
         ensures { Says (read_expressions tokens.now nesting.levels nesting.outer at) result }
     {
-        let (first, at) = self.expression(tokens, nesting, at)?;
-        let mut all = Items::new(self.alloc);
-        all.push(first)?;
+        let (all, at) = begun(self.alloc, self.expression(tokens, nesting, at))?;
         self.more_expressions(tokens, nesting, at, all)
     }
 
@@ -100,9 +99,10 @@ impl<
             if !next_is(tokens, at, Terminal::Comma) {
                 return Ok((all, at));
             }
-            let (next, behind) = self.expression(tokens, nesting, behind(tokens, at))?;
-            all.push(next)?;
-            at = behind;
+            at = appended(
+                &mut all,
+                self.expression(tokens, nesting, behind(tokens, at)),
+            )?;
         }
         Ok((all, at))
     }
@@ -184,9 +184,7 @@ impl<
         requires { Nests nesting.levels (F.pre self.now.operation) (F.post self.now.operation) }
         ensures { Says (read_list tokens.now nesting.levels nesting.outer at) result }
     {
-        let (first, at) = self.any(tokens, nesting, at)?;
-        let mut all = Items::new(self.alloc);
-        all.push(first)?;
+        let (all, at) = begun(self.alloc, self.any(tokens, nesting, at))?;
         self.more_of_list(tokens, nesting, at, all)
     }
 
@@ -208,9 +206,7 @@ impl<
             if !next_is(tokens, at, Terminal::Comma) {
                 return Ok((all, at));
             }
-            let (next, behind) = self.any(tokens, nesting, behind(tokens, at))?;
-            all.push(next)?;
-            at = behind;
+            at = appended(&mut all, self.any(tokens, nesting, behind(tokens, at)))?;
         }
         Ok((all, at))
     }

@@ -1,4 +1,5 @@
+pub mod Alternatives
 pub mod Levels
 pub mod Lists
 pub mod Promises
-pub mod Tails
+pub mod Whole

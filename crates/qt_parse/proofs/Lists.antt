@@ -1,56 +1,23 @@
 -- The lists of the grammar, each by its turns.
 use Rattle.std.proofs.Common.{◌≡◌, ℕ, ◌+◌, ◌-◌, ◌<◌, ◌++◌, List, [], ◌∷◌, length, true, false, Option, None, Some, Ok, Err, refl}
-use Rattle.qt_tree.specs.declared.statement.Operand.{Operand}
-use Rattle.qt_tree.specs.declared.statement.Modifier.{Modifier}
 use Rattle.qt_tree.specs.declared.statement.Statement.{Statement}
-use Rattle.qt_tree.specs.declared.program.ListItem.{ListItem}
-use Rattle.qt_tree.specs.declared.program.GateStatement.{GateStatement}
-use Rattle.qt_tree.specs.declared.program.Parameter.{Parameter}
 use Rattle.qt_tree.specs.declared.program.Item.{Item}
-use Rattle.qt_terminals.specs.declared.terminal.Terminal.{Terminal}
-use Rattle.qt_terminals.specs.declared.terminal.Terminal.TheVariants as w
-use Rattle.qt_terminals.specs.Alphabet.{code}
 use Rattle.qt_terminals.specs.Terminals.{PlacedTerminal, stream}
-use Rattle.qt_grammar.specs.Sorts.{Sort, Value, operand, modifier, statement, entry, gate_line, parameter, item}
+use Rattle.qt_grammar.specs.Sorts.{Sort, Value, statement, item}
 use Rattle.qt_grammar.specs.Form.{Form, member, terminal_at}
 use Rattle.qt_grammar.specs.Lookahead.{first}
 use Rattle.qt_grammar.specs.Outcome.{Outcome, and_then}
 use Rattle.qt_grammar.specs.Language.{some, or_none, listed}
 use Rattle.qt_grammar.specs.Language as g
-use Rattle.qt_expr.specs.Parser.{reading, rest_separated, rest_some}
-use Rattle.qt_expr.proofs.Loops.{separated_goes_on, some_goes_on}
-use Rattle.qt_parse.specs.Parser.{modifier_with_at, read_operand, read_modifier_with_at, read_statement, read_entry, read_gate_line, read_parameter, read_global, read_items}
+use Rattle.qt_expr.specs.Parser.{reading, rest_some}
+use Rattle.qt_expr.proofs.Loops.{some_goes_on}
+use Rattle.qt_parse.specs.Parser.{read_statement, read_global, read_items}
 
 module _ (tokens : List PlacedTerminal) (levels : ℕ) where
-  pub operands_go_on : (k : Terminal) (n turn : ℕ) (all : List Operand) (at : ℕ) → turn < n → member (terminal_at (stream tokens) at) (code k ∷ []) ≡ true
-      → rest_separated tokens {s = operand} k g.an_operand levels None (n - turn) all at ≡ and_then (read_operand tokens levels (at + 1)) (λ x m. rest_separated tokens {s = operand} k g.an_operand levels None (n - (turn + 1)) (all ++ x ∷ []) m)
-  unfolding read_operand
-  operands_go_on k n turn all at more e = separated_goes_on tokens {s = operand} g.an_operand levels None k n turn all at more e
-
-  pub modifiers_go_on : (n turn : ℕ) (all : List Modifier) (at : ℕ) → turn < n → member (terminal_at (stream tokens) at) (first {s = modifier} modifier_with_at) ≡ true
-      → rest_some tokens {s = modifier} modifier_with_at levels None (n - turn) all at ≡ and_then (read_modifier_with_at tokens levels at) (λ x m. rest_some tokens {s = modifier} modifier_with_at levels None (n - (turn + 1)) (all ++ x ∷ []) m)
-  unfolding read_modifier_with_at
-  modifiers_go_on n turn all at more e = some_goes_on tokens {s = modifier} modifier_with_at levels None n turn all at more e
-
   pub statements_go_on : (n turn : ℕ) (all : List Statement) (at : ℕ) → turn < n → member (terminal_at (stream tokens) at) (first {s = statement} g.a_statement) ≡ true
       → rest_some tokens {s = statement} g.a_statement levels None (n - turn) all at ≡ and_then (read_statement tokens levels at) (λ x m. rest_some tokens {s = statement} g.a_statement levels None (n - (turn + 1)) (all ++ x ∷ []) m)
   unfolding read_statement
   statements_go_on n turn all at more e = some_goes_on tokens {s = statement} g.a_statement levels None n turn all at more e
-
-  pub entries_go_on : (n turn : ℕ) (all : List ListItem) (at : ℕ) → turn < n → member (terminal_at (stream tokens) at) (code w.Comma ∷ []) ≡ true
-      → rest_separated tokens {s = entry} w.Comma g.entry_form levels None (n - turn) all at ≡ and_then (read_entry tokens levels (at + 1)) (λ x m. rest_separated tokens {s = entry} w.Comma g.entry_form levels None (n - (turn + 1)) (all ++ x ∷ []) m)
-  unfolding read_entry
-  entries_go_on n turn all at more e = separated_goes_on tokens {s = entry} g.entry_form levels None w.Comma n turn all at more e
-
-  pub gate_lines_go_on : (n turn : ℕ) (all : List GateStatement) (at : ℕ) → turn < n → member (terminal_at (stream tokens) at) (first {s = gate_line} g.a_gate_line) ≡ true
-      → rest_some tokens {s = gate_line} g.a_gate_line levels None (n - turn) all at ≡ and_then (read_gate_line tokens levels at) (λ x m. rest_some tokens {s = gate_line} g.a_gate_line levels None (n - (turn + 1)) (all ++ x ∷ []) m)
-  unfolding read_gate_line
-  gate_lines_go_on n turn all at more e = some_goes_on tokens {s = gate_line} g.a_gate_line levels None n turn all at more e
-
-  pub parameters_go_on : (n turn : ℕ) (all : List Parameter) (at : ℕ) → turn < n → member (terminal_at (stream tokens) at) (code w.Comma ∷ []) ≡ true
-      → rest_separated tokens {s = parameter} w.Comma g.a_parameter levels None (n - turn) all at ≡ and_then (read_parameter tokens levels (at + 1)) (λ x m. rest_separated tokens {s = parameter} w.Comma g.a_parameter levels None (n - (turn + 1)) (all ++ x ∷ []) m)
-  unfolding read_parameter
-  parameters_go_on n turn all at more e = separated_goes_on tokens {s = parameter} g.a_parameter levels None w.Comma n turn all at more e
 
   pub items_go_on : (n turn : ℕ) (all : List Item) (at : ℕ) → turn < n → member (terminal_at (stream tokens) at) (first {s = item} g.global) ≡ true
       → rest_some tokens {s = item} g.global levels None (n - turn) all at ≡ and_then (read_global tokens levels at) (λ x m. rest_some tokens {s = item} g.global levels None (n - (turn + 1)) (all ++ x ∷ []) m)

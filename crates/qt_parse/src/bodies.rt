@@ -5,20 +5,21 @@ ghost use Rattle.qt_grammar.specs.Sorts.{statement};
 ghost use Rattle.qt_grammar.specs.Language as g;
 ghost use Rattle.qt_grammar.specs.Outcome.{Says};
 ghost use Rattle.qt_expr.specs.Parser.{rest_some};
-ghost use Rattle.qt_parse.specs.Parser.{read_block, read_statements, read_single, read_a_block, read_body, read_if, read_otherwise, read_while, read_sequence, read_for, read_statement_form, read_statement, read_block_or_none, read_branches, read_named_loop, read_range_in_brackets, read_values, read_values_and_body};
+ghost use Rattle.qt_simple_statements.specs.Parser.{read_statement_form, read_values};
+ghost use Rattle.qt_parse.specs.Parser.{read_block, read_statements, read_single, read_a_block, read_body, read_if, read_otherwise, read_while, read_for, read_statement, read_block_or_none, read_branches, read_named_loop, read_values_and_body};
 
-use crate::grown::{appended, begun};
-use crate::statements::form_without_body;
-use qt_expr::expression::{in_parentheses, range, scalar, set};
+use qt_expr::expression::{in_parentheses, scalar};
+use qt_expr::grown::{appended, begun};
 use qt_expr::names::label;
 use qt_grammar::refusal::Refusal;
 use qt_lookahead::begins::begins_statement;
 use qt_lookahead::nesting::too_deep;
 use qt_lookahead::one_token::{exactly, next_is};
 use qt_lookahead::pieces::{ended, paired};
+use qt_simple_statements::statements::form_without_body;
+use qt_simple_statements::values::values;
 use qt_terminals::stream::TokenStream;
 use qt_terminals::terminal::Terminal;
-use qt_tree::expression::Range;
 use qt_tree::label::Label;
 use qt_tree::statement::{Sequence, Statement, StatementForm};
 use sqlite_items::Items;
@@ -100,59 +101,8 @@ fn while_loop(
     Ok((StatementForm::While { condition, body }, at))
 }
 
-/// `"[" range "]"`
-#[tactic(auto, unfolding(crate::specs::Parser::read_range_in_brackets, qt_expr::specs::Parser::read_range, qt_lookahead::specs::OneToken::read_exactly))]
-fn range_in_brackets(
-    alloc: Global,
-    tokens: &TokenStream<'_>,
-    levels: usize,
-    at: usize,
-) -> Result<(Range, usize), Refusal>
-    ensures { Says (read_range_in_brackets tokens.now levels at) result }
-{
-    let at = exactly(tokens, at, Terminal::LeftBracket)?;
-    let (range, at) = range(alloc, tokens, levels, at)?;
-    ended(tokens, range, at, Terminal::RightBracket)
-}
-
-/// `"[" range "]" | "{" exprs "}" | Name`
-#[tactic(auto, unfolding(crate::specs::Parser::read_sequence, crate::specs::Parser::read_range_in_brackets, qt_expr::specs::Parser::read_set, qt_expr::specs::Parser::read_label))]
-fn sequence(
-    alloc: Global,
-    tokens: &TokenStream<'_>,
-    levels: usize,
-    at: usize,
-) -> Result<(Sequence, usize), Refusal>
-    ensures { Says (read_sequence tokens.now levels at) result }
-{
-    if next_is(tokens, at, Terminal::LeftBracket) {
-        let (range, at) = range_in_brackets(alloc, tokens, levels, at)?;
-        return Ok((Sequence::Range { range }, at));
-    }
-    if next_is(tokens, at, Terminal::LeftBrace) {
-        let (members, at) = set(alloc, tokens, levels, at)?;
-        return Ok((Sequence::Set { members }, at));
-    }
-    let (name, at) = label(alloc, tokens, at)?;
-    Ok((Sequence::Name { name }, at))
-}
-
-/// `"in" ( "[" range "]" | "{" exprs "}" | Name )`
-#[tactic(auto, unfolding(crate::specs::Parser::read_values, crate::specs::Parser::read_sequence, qt_lookahead::specs::OneToken::read_exactly))]
-fn values(
-    alloc: Global,
-    tokens: &TokenStream<'_>,
-    levels: usize,
-    at: usize,
-) -> Result<(Sequence, usize), Refusal>
-    ensures { Says (read_values tokens.now levels at) result }
-{
-    let at = exactly(tokens, at, Terminal::In)?;
-    sequence(alloc, tokens, levels, at)
-}
-
 /// `"in" ( "[" range "]" | "{" exprs "}" | Name ) body`
-#[tactic(auto, unfolding(crate::specs::Parser::read_values_and_body, crate::specs::Parser::read_values, crate::specs::Parser::read_body))]
+#[tactic(auto, unfolding(crate::specs::Parser::read_values_and_body, qt_simple_statements::specs::Parser::read_values, crate::specs::Parser::read_body))]
 #[cycle(statement)]
 fn values_and_body(
     alloc: Global,
@@ -206,7 +156,6 @@ fn for_loop(
 }
 
 /// A statement, but for its place.
-#[tactic(auto, unfolding(crate::specs::Parser::read_statement_form, crate::specs::Parser::read_if, crate::specs::Parser::read_while, crate::specs::Parser::read_for))]
 #[cycle(statement)]
 pub fn statement_form(
     alloc: Global,
@@ -225,7 +174,7 @@ pub fn statement_form(
 }
 
 /// `statement`
-#[tactic(auto, unfolding(crate::specs::Parser::read_statement, crate::specs::Parser::read_statement_form))]
+#[tactic(auto, unfolding(crate::specs::Parser::read_statement, qt_simple_statements::specs::Parser::read_statement_form))]
 #[cycle(statement)]
 fn statement(
     alloc: Global,

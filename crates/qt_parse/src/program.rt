@@ -8,13 +8,14 @@ ghost use Rattle.qt_grammar.specs.Spelling.{language_limits};
 ghost use Rattle.qt_expr.specs.Parser.{rest_some};
 ghost use Rattle.qt_parse.specs.Parser.{read_statement_item, read_global, read_items, read_version_number, read_version, read_versions, read_whole};
 
-use crate::arrays::array_item;
 use crate::bodies::statement_form;
-use crate::definitions::{definition, gate_item};
-use crate::grown::{appended, begun};
-use crate::items::{include, input, output, qubit_item, register_item};
+use crate::definitions::definition;
+use qt_expr::grown::{appended, begun};
 use qt_grammar::maximum::MOST_LEVELS;
 use qt_grammar::refusal::Refusal;
+use qt_items::arrays::array_item;
+use qt_items::gates::gate_item;
+use qt_items::items::{include, input, output, qubit_item, register_item};
 use qt_lookahead::begins::begins_item;
 use qt_lookahead::one_token::{exactly, next_is};
 use qt_lookahead::pieces::with_semicolon;
@@ -28,7 +29,7 @@ use sqlite_items::Items;
 use std::alloc::Global;
 
 /// A statement as an item.
-#[tactic(auto, unfolding(crate::specs::Parser::read_statement_item, crate::specs::Parser::read_statement_form))]
+#[tactic(auto, unfolding(crate::specs::Parser::read_statement_item, qt_simple_statements::specs::Parser::read_statement_form))]
 fn statement_item(
     alloc: Global,
     tokens: &TokenStream<'_>,
@@ -44,7 +45,6 @@ fn statement_item(
 }
 
 /// `global = include | io | qubits | arrays | gate | def | statement`
-#[tactic(auto, using(crate::proofs::Tails::global_is))]
 fn global(
     alloc: Global,
     tokens: &TokenStream<'_>,
@@ -154,7 +154,7 @@ fn versions(
 }
 
 /// `program = [ version ] { global }`, and then the end of the text.
-#[tactic(auto, using(crate::proofs::Tails::whole_is, crate::proofs::Tails::the_end, crate::proofs::Tails::no_end))]
+#[tactic(auto, using(crate::proofs::Whole::whole_is, crate::proofs::Whole::the_end, crate::proofs::Whole::no_end))]
 pub fn whole(alloc: Global, tokens: &TokenStream<'_>) -> Result<Program, Refusal>
     ensures { Tells (read_whole tokens.now language_limits.levels 0) result }
 {

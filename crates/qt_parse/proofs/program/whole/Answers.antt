@@ -1,6 +1,6 @@
 use Rattle.std.proofs.Common.{◌≡◌, ◌+◌, ◌∙◌, true, sym, Ok, refl}
 use Rattle.qt_parse.specs.Parser.{read_versions, read_items}
-use Rattle.qt_parse.proofs.Tails.{whole_is, the_end}
+use Rattle.qt_parse.proofs.Whole.{whole_is, the_end}
 use Rattle.qt_parse.proofs.program.whole.Goals as goal
 
 pub returns : goal.returns
