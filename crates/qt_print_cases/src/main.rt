@@ -10,40 +10,34 @@
 #![tactic(auto)]
 
 mod calls;
-mod text;
 
-use crate::text::unescaped;
-use qt_outside::faults::OutOfMemory;
+use qt_rows::answer::Answer;
+use qt_rows::cases::{Cases, answer_lines};
+use qt_rows::row::Row;
+use qt_rows::text::unescaped;
 use std::alloc::Global;
-use std::io::{self, BufWriter, Write};
+use std::io;
 use std::process::ExitCode;
 
-/// The answer to a row, written behind what stands in `answer`.
-fn answer_row(alloc: Global, row: &str, answer: &mut String) -> Result<(), OutOfMemory> {
-    let (call, written) = match row.split_once(' ') {
-        Some((call, written)) => (call, written),
-        None => (row, ""),
-    };
-    let text = unescaped(alloc, written)?;
-    match call {
-        "format" => calls::format(alloc, text.as_str(), answer),
-        "sprawl" => calls::sprawl(alloc, text.as_str(), answer),
-        "again" => calls::again(alloc, text.as_str(), answer),
-        _ => Ok(answer.push_str("no row")?),
+/// What answers the rows.
+#[derive(Drop)]
+struct PrintCases;
+
+impl Cases for PrintCases {
+    fn answer(&mut self, alloc: Global, row: &mut Row<'_>, answer: &mut Answer) {
+        let call = row.word();
+        let Some(text) = answer.given(unescaped(alloc, row.rest)) else {
+            return;
+        };
+        match call {
+            "format" => calls::format(alloc, text.as_str(), answer),
+            "sprawl" => calls::sprawl(alloc, text.as_str(), answer),
+            "again" => calls::again(alloc, text.as_str(), answer),
+            _ => row.refuse(),
+        }
     }
 }
 
 fn main(rt: HostRuntime) -> io::Result<ExitCode> {
-    let alloc = rt.alloc();
-    let rows = io::read_to_string(alloc, rt.reader())?;
-    let mut out = BufWriter::new(alloc, io::writer(&rt))?;
-    for row in rows.lines() {
-        let mut answer = String::new(alloc);
-        if answer_row(alloc, row, &mut answer).is_err() {
-            return Ok(ExitCode::FAILURE);
-        }
-        writeln!(out, "{answer}")?;
-    }
-    out.flush()?;
-    Ok(ExitCode::SUCCESS)
+    answer_lines(rt.alloc(), &mut PrintCases, rt.reader(), io::writer(&rt))
 }
