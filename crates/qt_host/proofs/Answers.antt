@@ -16,7 +16,7 @@ use Rattle.qt_words.specs.declared.request.Mode.TheVariants.{Run, Format}
 use Rattle.qt_lines.specs.Lines.{IsLine, form_line, shelf_line}
 use Rattle.qt_host.specs.Lines.{TellsRefusal, fault_line}
 use Rattle.qt_host.specs.Said.{Said, answered, refused, refused_text, other_form, report_of, canonical_of}
-use Rattle.qt_host.specs.Steps.{IsAnswer, HasNoAnswer, HasNoAnswerAt, HasShelfCause, IsTold}
+use Rattle.qt_host.specs.Steps.{IsAnswer, HasNoSource, HasNoAnswer, HasNoAnswerAt, HasShelfCause, IsTold}
 use Rattle.qt_host.specs.declared.refusal.HostRefusal.{HostRefusal}
 use Rattle.qt_host.specs.declared.refusal.HostRefusal.TheVariants.{Shelf, Text, Early, OutOfMemory}
 
@@ -57,6 +57,15 @@ why_whole Run name text (Early of) h = subst (λ t. HasNoAnswer Run name t (Earl
 why_whole Format name text (Early of) h = absurd h
 why_whole Run name text OutOfMemory h = tt
 why_whole Format name text OutOfMemory h = tt
+
+-- why a text has no program is why it has no answer
+pub no_answer : (mode : Mode) (name text : List ℕ) (reason : HostRefusal) → HasNoSource name text reason → HasNoAnswer mode name text reason
+no_answer mode name text (Shelf of) h = absurd h
+no_answer Run name text (Text reason) h = h
+no_answer Format name text (Text reason) h = h
+no_answer mode name text (Early of) h = absurd h
+no_answer Run name text OutOfMemory h = tt
+no_answer Format name text OutOfMemory h = tt
 
 -- what is answered to the part that was fetched is the answer to the whole
 of_whole : {A : Type 0} (bytes : A → List ℕ) (mode : Mode) (name text : List ℕ) (result : Result A HostRefusal)

@@ -1,8 +1,8 @@
 //! The text that is asked for, and the answer that it comes to.
 
-ghost use Rattle.std.specs.Prelude.{◌≡◌, take, string_bytes, Some, IfOk, MatchResult};
+ghost use Rattle.std.specs.Prelude.{◌≡◌, ℕ, List, take, string_bytes, Some, IfOk, MatchResult};
 ghost use Rattle.qt_outside.specs.Causes.{Texts, text_of};
-ghost use Rattle.qt_read.specs.Reading.{IsTextOfProgram};
+ghost use Rattle.qt_read.specs.Reading.{IsReason};
 ghost use Rattle.qt_host.specs.Steps.{IsAnswer, HasNoSource, HasNoAnswer, HasNoAnswerAt, HasNoText, HasShelfCause};
 ghost use Rattle.qt_words.specs.declared.request.Mode.TheVariants as modes;
 
@@ -10,12 +10,10 @@ use crate::refusal::HostRefusal;
 use qt_first::read::read as read_first;
 use qt_outside::faults::FetchFault;
 use qt_outside::shelf::Shelf;
-use qt_print::print;
-use qt_read::read::read;
 use qt_report::text_report;
 use qt_run::run;
+use qt_sources::source::{canonical, check};
 use qt_tree::label::Label;
-use qt_tree::program::Program;
 use qt_tree::refusal::TextRefusal;
 use qt_words::request::Mode;
 use std::alloc::Global;
@@ -39,14 +37,13 @@ fn fetched<S: Shelf>(alloc: Global, shelf: &mut S, name: &str) -> Result<Vec<u8>
     }
 }
 
-/// The program of a text.
-fn source_of(alloc: Global, name: &str, text: &[u8]) -> Result<Program, HostRefusal>
-    ensures { MatchResult result (IsTextOfProgram 0 text.now) (HasNoSource name.now text.now) }
+/// Why a text that is refused has no answer.
+fn told(refusal: TextRefusal) -> HostRefusal
+    ensures { (name text : List ℕ) → IsReason name 0 text refusal → HasNoSource name text result }
 {
-    match read(alloc, name, 0, text) {
-        Ok(program) => Ok(program),
-        Err(TextRefusal::OutOfMemory) => Err(HostRefusal::OutOfMemory),
-        Err(refusal) => Err(HostRefusal::Text(refusal)),
+    match refusal {
+        TextRefusal::OutOfMemory => HostRefusal::OutOfMemory,
+        refusal => HostRefusal::Text(refusal),
     }
 }
 
@@ -56,15 +53,19 @@ fn canonical_of(alloc: Global, name: &str, text: &[u8]) -> Result<String, HostRe
         (λ answer. IsAnswer modes.Format text.now (string_bytes answer))
         (HasNoAnswer modes.Format name.now text.now) }
 {
-    let program = source_of(alloc, name, text)?;
-    Ok(print(alloc, &program)?)
+    match canonical(alloc, name, text) {
+        Ok(answer) => Ok(answer),
+        Err(refusal) => Err(told(refusal)),
+    }
 }
 
 /// The report of the program of a text, if it has the first form.
 fn report_of(alloc: Global, name: &str, text: &[u8]) -> Result<String, HostRefusal>
     ensures { MatchResult result (λ answer. IsAnswer modes.Run text.now (string_bytes answer)) (HasNoAnswer modes.Run name.now text.now) }
 {
-    let _source = source_of(alloc, name, text)?;
+    if let Err(refusal) = check(alloc, name, text) {
+        return Err(told(refusal));
+    }
     let Some(program) = read_first(alloc, text)? else {
         return Err(HostRefusal::Early(Label::new(alloc, name)?));
     };

@@ -8,7 +8,7 @@ use qt_tree::refusal::TextRefusal;
 use std::alloc::AllocError;
 
 /// Why a text has no answer.
-#[derive(Debug, Drop, PartialEq, Eq)]
+#[derive(Debug, Drop)]
 pub enum HostRefusal {
     /// The shelf failed to give the text of that name.
     Shelf(Label),

@@ -15,13 +15,14 @@ use qt_read::line::refusal_line;
 use qt_tree::label::Label;
 use qt_tree::refusal::TextRefusal;
 use std::alloc::Global;
+use std::slice;
 
 /// The line of a refused text.
 fn text_line(alloc: Global, name: &str, refusal: &TextRefusal) -> Result<String, OutOfMemory>
     ensures { IfOk result (λ line. string_bytes line ≡ texts.refusal_line (name.now ∷ []) refusal.now) }
 {
-    let names = [Label::new(alloc, name)?];
-    refusal_line(alloc, &names, refusal)
+    let name = Label::new(alloc, name)?;
+    refusal_line(alloc, slice::from_ref(&name), refusal)
 }
 
 /// The line of a refusal.

@@ -54,7 +54,7 @@ part_more before now after done piece behind w k h f =
       taken = length done + k;
       within = omega (arith, length-append done (piece ++ behind), length-append piece behind);
       bytes = subst (λ t. Follows before.bytes after.bytes t) (sym taken)
-      (follows_more before.bytes now.bytes after.bytes done (take k piece) w.bytes f);
+          (follows_more before.bytes now.bytes after.bytes done (take k piece) w.bytes f);
     }
 
 -- a piece was refused behind what was taken whole
