@@ -8,7 +8,7 @@ ghost use Rattle.qt_words.specs.declared.request.Mode.TheVariants as modes;
 
 use crate::refusal::HostRefusal;
 use qt_first::read::read as read_first;
-use qt_outside::faults::FetchFault;
+use qt_outside::faults::{FetchFault, OutOfMemory};
 use qt_outside::shelf::Shelf;
 use qt_report::text_report;
 use qt_run::run;
@@ -16,10 +16,30 @@ use qt_sources::source::{canonical, check};
 use qt_tree::label::Label;
 use qt_tree::refusal::TextRefusal;
 use qt_words::request::Mode;
-use std::alloc::Global;
+use std::alloc::{AllocError, Global};
 
 /// One more byte than the longest text that is read, so that a longer one is seen to be too long.
 const MOST: usize = 1048577;
+
+impl From<OutOfMemory> for HostRefusal {
+    ghost use Rattle.qt_host.specs.declared.refusal.HostRefusal.TheVariants.{OutOfMemory};
+
+    ghost from_gives = { λ _ e. e ≡ OutOfMemory };
+
+    fn from(_error: OutOfMemory) -> HostRefusal {
+        HostRefusal::OutOfMemory
+    }
+}
+
+impl From<AllocError> for HostRefusal {
+    ghost use Rattle.qt_host.specs.declared.refusal.HostRefusal.TheVariants.{OutOfMemory};
+
+    ghost from_gives = { λ _ e. e ≡ OutOfMemory };
+
+    fn from(_error: AllocError) -> HostRefusal {
+        HostRefusal::OutOfMemory
+    }
+}
 
 /// The text of that name, as far as it is read.
 fn fetched<S: Shelf>(alloc: Global, shelf: &mut S, name: &str) -> Result<Vec<u8>, HostRefusal>
