@@ -1,4 +1,4 @@
-use Rattle.std.proofs.Common.{◌≡◌, ◌∙◌, ◌++◌, take}
+use Rattle.std.proofs.Common.{◌∙◌, ◌++◌, take}
 use Rattle.qt_adapters.proofs.Writing.{more_taken, prefix_taken, parts_more}
 use Rattle.qt_adapters.proofs.writer_sink.WriterSinkSink.put.Goals as goal
 
