@@ -493,7 +493,8 @@ fn put_if(
     body: &[Statement],
     otherwise: &Option<Items<Statement>>,
 )
-    ensures { Makes (λ sheet. pages.put_if sheet margin.now (spec.condition_lexemes (codes "if") condition.now) (map spec.statement_lines body.now) (pages.each_lines otherwise.now)) page.old page.new }
+    ensures { Makes (λ sheet. pages.put_if sheet margin.now (spec.condition_lexemes (codes "if") condition.now)
+        (map spec.statement_lines body.now) (pages.each_lines otherwise.now)) page.old page.new }
 {
     put_condition(page, "if", condition);
     put_body(page, margin, body);
@@ -515,7 +516,8 @@ fn put_else(page: &mut Page, margin: &str, otherwise: &Option<Items<Statement>>)
 /// A `while`, on a line that is begun.
 #[cycle(statement)]
 fn put_while(page: &mut Page, margin: &str, condition: &Expr, body: &[Statement])
-    ensures { Makes (λ sheet. pages.put_block sheet margin.now (spec.condition_lexemes (codes "while") condition.now) (map spec.statement_lines body.now)) page.old page.new }
+    ensures { Makes (λ sheet. pages.put_block sheet margin.now (spec.condition_lexemes (codes "while") condition.now)
+        (map spec.statement_lines body.now)) page.old page.new }
 {
     put_condition(page, "while", condition);
     put_body(page, margin, body);
@@ -532,7 +534,8 @@ fn put_for(
     values: &Sequence,
     body: &[Statement],
 )
-    ensures { Makes (λ sheet. pages.put_block sheet margin.now (spec.for_lexemes scalar.now name.now values.now) (map spec.statement_lines body.now)) page.old page.new }
+    ensures { Makes (λ sheet. pages.put_block sheet margin.now (spec.for_lexemes scalar.now name.now values.now)
+        (map spec.statement_lines body.now)) page.old page.new }
 {
     put_for_head(page, scalar, name, values);
     put_body(page, margin, body);
