@@ -421,7 +421,7 @@ def read_block(to, lines, indent, definitions):
 
 def read_item(to, item, indent, definitions):
     head = item[0].strip()
-    if re.match(r"(pub )?use ", head):
+    if re.match(r"(unfoldable )?(pub )?use ", head):
         read_use(to, head.partition("use ")[2])
     elif head.endswith("mutual"):
         read_block(to, item[1:], indent + 2, definitions)
