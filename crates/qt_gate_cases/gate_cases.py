@@ -33,5 +33,30 @@ for wrong in ["", "table", "table ", "table all", "standard"]:
 for wrong in ["bodies", "bodies 1", "bodies 1:", "bodies :1", "bodies 1:4294967296", "bodies 1:2 x:2", "body 1:2"]:
     rows.append(wrong)
     answers.append("no row")
+# how many primitives each standard gate comes to, and with modifiers so many times as the powers say; none of them counts operators
+primitives = {
+    "x": 2, "y": 2, "h": 2, "rx": 2, "ry": 2, "rz": 2, "u2": 2, "u3": 2, "cx": 2, "CX": 2, "cy": 2, "crx": 2, "cry": 2, "crz": 2, "ch": 2,
+    "swap": 6, "ccx": 2, "cswap": 6, "cu": 2,
+}
+stop = 4294967295
+for name, _, _, _ in gates:
+    rows.append(f"count {name}")
+    answers.append(f"primitives {primitives.get(name, 1)}, operators 0")
+for name, modifiers, times in [
+    ("t", "ctrl pow:-2", 2), ("swap", "inv", 1), ("swap", "pow:0", 0), ("cu", "pow:3 ctrl pow:-5 negctrl inv", 15),
+    ("swap", "pow:2147483647", 2147483647), ("cswap", "pow:-2147483648", 2147483648), ("id", "pow:65536 pow:65535", 65536 * 65535),
+    ("id", "pow:65536 pow:65536", 65536 * 65536), ("x", "pow:0 pow:2147483647 pow:4", 0),
+]:
+    rows.append(f"count {name} {modifiers}")
+    answers.append(f"primitives {min(primitives.get(name, 1) * times, stop)}, operators 0")
+for gates_behind, operators in [(1, 0), (1, 3), (2, 3), (29, 0), (30, 1), (31, 2), (33, 1), (100, 4294967295), (255, 1)]:
+    told = (6, 0)
+    for _ in range(gates_behind):
+        told = (2 * told[0], 2 * (operators + told[1]))
+    rows.append(f"chain {gates_behind} {operators}")
+    answers.append(f"primitives {min(told[0], stop)}, operators {min(told[1], stop)}")
+for wrong in ["count", "count nothing", "count x pow", "count x pow:", "count x pow:2147483648", "count x twice", "chain", "chain 1", "chain 0 0", "chain 256 0"]:
+    rows.append(wrong)
+    answers.append("no row")
 (here / "stdin").write_text("\n".join(rows) + "\n")
 (here / "stdout").write_text("\n".join(answers) + "\n")

@@ -5,4 +5,5 @@ pub mod Matrices
 pub mod Primitives
 pub mod Faults
 pub mod Counts
+pub mod Stopped
 pub mod Standard

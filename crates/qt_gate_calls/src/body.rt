@@ -1,8 +1,11 @@
 //! Calls in a gate's body, bodies, and the bodies of a program.
 
 ghost use Rattle.std.specs.Prelude.{◌≡◌, IfOk};
+ghost use Rattle.qt_gate_calls.specs.Counts.{call_count, call_operators, primitive_counts, operator_counts};
+ghost use Rattle.qt_gate_calls.specs.Stopped.{stopped};
 
 use crate::angle::Angle;
+use crate::counts::{GateCount, call_count, counts_of};
 use qt_outside::faults::OutOfMemory;
 use sqlite_items::Items;
 use std::alloc::Global;
@@ -51,10 +54,12 @@ pub struct GateBody {
     pub calls: Items<BodyCall>,
 }
 
-/// The gates of a program by their numbers. Contracts see them as the list of their bodies, which all copies share.
+/// The gates of a program by their numbers, with what each comes to. Contracts see them as the list of their bodies, which all copies
+/// share.
 #[derive(Drop)]
 pub struct GateBodies {
     bodies: Rc<Items<GateBody>>,
+    counts: Rc<Items<GateCount>>,
 }
 
 impl Model for GateBodies {
@@ -62,12 +67,25 @@ impl Model for GateBodies {
     ghost use Rattle.std.specs.Coded.{coded_list};
     ghost use Rattle.qt_gate_calls.specs.declared.body.GateBody.{GateBody};
     ghost use Rattle.qt_gate_calls.specs.contracts.body.GateBody as body;
+    ghost use Rattle.qt_gate_calls.specs.Stopped.{AreCounted};
 
     ghost Value = { List GateBody };
 
     ghost coded = { coded_list body.the_row.coded };
 
     ghost view = { λ gates. gates.bodies.value };
+
+    ghost invariant = { λ gates. AreCounted gates.bodies.value gates.counts.value };
+}
+
+/// The value, to be shared.
+fn shared<T: Drop>(alloc: Global, value: T) -> Result<Rc<T>, OutOfMemory>
+    ensures { IfOk result (λ shared. shared.value ≡ value) }
+{
+    match Rc::new(alloc, value) {
+        Ok(shared) => Ok(shared),
+        Err(_) => Err(OutOfMemory),
+    }
 }
 
 impl GateBodies {
@@ -75,10 +93,10 @@ impl GateBodies {
     pub fn new(alloc: Global, bodies: Items<GateBody>) -> Result<GateBodies, OutOfMemory>
         ensures { IfOk result (λ gates. gates ≡ bodies) }
     {
-        match Rc::new(alloc, bodies) {
-            Ok(bodies) => Ok(GateBodies { bodies }),
-            Err(_) => Err(OutOfMemory),
-        }
+        let counts = counts_of(alloc, bodies.as_slice())?;
+        let counts = shared(alloc, counts)?;
+        let bodies = shared(alloc, bodies)?;
+        Ok(GateBodies { bodies, counts })
     }
 
     /// Their bodies.
@@ -88,12 +106,23 @@ impl GateBodies {
         self.bodies.as_slice()
     }
 
+    /// How many primitives a call of these gates comes to, and how many operators stand in the arguments of the calls in the bodies that it
+    /// puts in, as often as it puts them in. Both stop at 4,294,967,295.
+    #[tactic(auto, using(crate::proofs::Counted::counted_call, crate::proofs::Counted::counted_operators))]
+    pub fn count(&self, modifiers: &[GateModifier], gate: Called) -> GateCount
+        ensures primitives { result.primitives ≡ stopped (call_count (primitive_counts self.now) modifiers.now gate) }
+        ensures operators { result.operators ≡ stopped (call_operators (operator_counts self.now) modifiers.now gate) }
+    {
+        call_count(self.counts.as_slice(), modifiers, gate)
+    }
+
     /// The same gates, which share their bodies with these.
     pub fn share(&self) -> Result<GateBodies, OutOfMemory>
         ensures { IfOk result (λ gates. gates ≡ self.now) }
     {
         Ok(GateBodies {
             bodies: self.bodies.clone()?,
+            counts: self.counts.clone()?,
         })
     }
 }

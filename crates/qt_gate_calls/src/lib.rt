@@ -11,4 +11,5 @@
 
 pub mod angle;
 pub mod body;
+pub mod counts;
 pub mod whole;

@@ -4,21 +4,33 @@
 //! bodies without calls, each with so many parameters and qubits: the answer has them as the bodies of a program, and as what they are
 //! shared with. A row `standard NAME` asks for the standard gate of that name: the answer is its number, its parameters and its qubits, or
 //! `none`. A row `table standard` is answered with all standard gates, `NAME:P:Q:C` with so many parameters, qubits and calls in its body.
+//! A row `count NAME MODIFIER ..` is a call of that standard gate under these modifiers, `inv`, `ctrl`, `negctrl` or `pow:K`: the answer is
+//! how many primitives and operators it comes to. A row `chain N K` is a call of the last of N gates behind the standard ones, the first of
+//! which calls `swap` twice, and each other the gate before it, with K operators in the arguments of each call.
 //! A line that is no such row is answered with `no row`.
 //!
 //! `gate_cases.py` writes the rows and the answers that are wanted.
 #![tactic(auto)]
 
-use qt_gate_calls::body::{GateBodies, GateBody};
+use qt_gate_calls::body::{BodyCall, Called, GateBodies, GateBody, GateModifier};
 use qt_gates::named::{ROWS, standard};
 use qt_gates::table::standard_bodies;
+use qt_modify::counts::{operator_count, prim_count};
 use qt_rows::answer::Answer;
 use qt_rows::cases::{Cases, answer_lines};
 use qt_rows::row::Row;
+use qt_tree::place::Place;
+use qt_typed::call::{GateUse, TypedCall};
 use sqlite_items::Items;
-use std::alloc::Global;
+use std::alloc::{AllocError, Global};
 use std::io;
 use std::process::ExitCode;
+
+/// The number of `swap` in the table.
+const SWAP_ROW: u32 = 28;
+
+/// The number of the first gate behind the table.
+const FIRST_DECLARED: u32 = 32;
 
 /// What answers the rows.
 #[derive(Drop)]
@@ -100,12 +112,137 @@ fn answer_standard(row: &mut Row<'_>, answer: &mut Answer) {
     }
 }
 
+/// The power `pow:K`.
+fn power_in(written: &str, row: &mut Row<'_>) -> GateModifier {
+    let mut power = Row::new(written);
+    row.refused |= power.part(':') != "pow";
+    let exponent = power.i32();
+    row.refused |= power.refused;
+    GateModifier::Pow { exponent }
+}
+
+/// A modifier as a row has it.
+fn modifier_in(written: &str, row: &mut Row<'_>) -> GateModifier {
+    match written {
+        "inv" => GateModifier::Inv,
+        "ctrl" => GateModifier::Ctrl,
+        "negctrl" => GateModifier::NegCtrl,
+        _ => power_in(written, row),
+    }
+}
+
+/// The modifiers of the rest of the row, the outermost first.
+fn modifiers_in(alloc: Global, row: &mut Row<'_>, answer: &mut Answer) -> Items<GateModifier> {
+    let mut modifiers = Items::new(alloc);
+    for written in row.rest.split_whitespace() {
+        answer.require(modifiers.push(modifier_in(written, row)));
+    }
+    modifiers
+}
+
+/// The counts of a call of that gate without arguments and operands.
+fn tell_counts(
+    alloc: Global,
+    gates: GateBodies,
+    modifiers: Items<GateModifier>,
+    number: u32,
+    answer: &mut Answer,
+) {
+    let call = TypedCall {
+        place: Place {
+            file: 0,
+            line: 1,
+            column: 1,
+        },
+        used: GateUse {
+            gates,
+            modifiers,
+            gate: Called::Gate { number },
+            arguments: Items::new(alloc),
+        },
+        operands: Items::new(alloc),
+    };
+    let (primitives, operators) = (prim_count(&call), operator_count(&call));
+    write!(answer, "primitives {primitives}, operators {operators}");
+}
+
+/// The gates of the table, with these behind them.
+fn gates_with(alloc: Global, declared: Items<GateBody>, answer: &mut Answer) -> Option<GateBodies> {
+    let mut bodies = answer.given(standard_bodies(alloc))?;
+    answer.require(bodies.append(declared));
+    answer.given(GateBodies::new(alloc, bodies))
+}
+
+/// `count NAME MODIFIER ..`
+fn answer_count(alloc: Global, row: &mut Row<'_>, answer: &mut Answer) {
+    let Some(gate) = standard(row.word()) else {
+        row.refuse();
+        return;
+    };
+    let modifiers = modifiers_in(alloc, row, answer);
+    if let Some(gates) = gates_with(alloc, Items::new(alloc), answer) {
+        tell_counts(alloc, gates, modifiers, gate.number, answer);
+    }
+}
+
+/// A call of the gate with that number, on no qubits.
+fn bare_call(alloc: Global, number: u32, operators: u32) -> BodyCall {
+    BodyCall {
+        modifiers: Items::new(alloc),
+        gate: Called::Gate { number },
+        angles: Items::new(alloc),
+        qubits: Items::new(alloc),
+        operators,
+    }
+}
+
+/// A gate that calls another twice.
+fn twice(alloc: Global, number: u32, operators: u32) -> Result<GateBody, AllocError> {
+    let mut calls = Items::new(alloc);
+    calls.push(bare_call(alloc, number, operators))?;
+    calls.push(bare_call(alloc, number, operators))?;
+    Ok(GateBody {
+        parameters: 0,
+        qubits: 0,
+        calls,
+    })
+}
+
+/// So many gates, each of which calls the one before it twice, the first of them `swap`.
+fn chain(alloc: Global, count: u8, operators: u32) -> Result<Items<GateBody>, AllocError> {
+    let mut gates = Items::new(alloc);
+    let mut called = SWAP_ROW;
+    for number in 0..count {
+        gates.push(twice(alloc, called, operators)?)?;
+        called = FIRST_DECLARED + number as u32;
+    }
+    Ok(gates)
+}
+
+/// `chain N K`
+fn answer_chain(alloc: Global, row: &mut Row<'_>, answer: &mut Answer) {
+    let (count, operators) = (row.u8(), row.u32());
+    if count == 0 {
+        row.refuse();
+        return;
+    }
+    let Some(declared) = answer.given(chain(alloc, count, operators)) else {
+        return;
+    };
+    if let Some(gates) = gates_with(alloc, declared, answer) {
+        let last = FIRST_DECLARED + (count - 1) as u32;
+        tell_counts(alloc, gates, Items::new(alloc), last, answer);
+    }
+}
+
 impl Cases for GateCases {
     fn answer(&mut self, alloc: Global, row: &mut Row<'_>, answer: &mut Answer) {
         match row.part(' ') {
             "bodies" => answer_bodies(alloc, row, answer),
             "standard" => answer_standard(row, answer),
             "table" => answer_table(alloc, row, answer),
+            "count" => answer_count(alloc, row, answer),
+            "chain" => answer_chain(alloc, row, answer),
             _ => row.refuse(),
         }
     }

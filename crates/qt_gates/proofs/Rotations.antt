@@ -3,7 +3,7 @@ use Rattle.std.proofs.Common.{◌≡◌, ℕ, ◌*◌, [], ◌∷◌, refl, sym,
 use Rattle.std.specs.Prelude.{codes}
 use denote.Hole.Carrier.{hidden}
 use Rattle.qt_ring.specs.declared.omega.Omega.{Omega}
-use Rattle.qt_ring.specs.Ring.{plus, times, minus, conj, nil, one, imaginary, the_omega, root}
+use Rattle.qt_ring.specs.Ring.{plus, times, minus, conj, one, imaginary, the_omega, root}
 use Rattle.qt_ring.proofs.RingLaws.{plus_comm, plus-times, minus-times, times-minus, times_assoc, times_front, times-one, one-times, minus_plus, minus_minus, plus_both}
 use Rattle.qt_gate_calls.specs.Units.{circle}
 use Rattle.qt_gate_calls.specs.Standard.{standard_gates}

@@ -64,7 +64,7 @@ in_front g m =
     ∙ ap (λ t. square h (times m.a g) (times m.b g) (times m.c g) t) (times_comm g m.d)
 
 rx_in_front : (g a b c : Omega) → IsPrinted (turn_and_phase g a b c) (alone (scaled_in_front g (u_square a b c)))
-rx_in_front g a b c = simp (one-times, nil-times, times-nil, plus-nil, nil-plus)
+rx_in_front g a b c = simp (one-times, nil-times, plus-nil, nil-plus)
 
 pub rx_printed : (g a b c : Omega) → IsPrinted (turn_and_phase g a b c) (alone (scaled g (u_square a b c)))
 rx_printed g a b c = rx_in_front g a b c ∙ ap (λ (m : Square). doubled 1 (alone m).rows) (in_front g (u_square a b c))
