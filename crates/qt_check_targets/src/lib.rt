@@ -1,0 +1,9 @@
+//! The check of what is assigned to.
+//!
+//! Each function here is one definition of `qt_typing`, of the same name: it answers what that finds, or its refusal, or want of memory.
+//! [`targets::target_at`] is the target of an assignment, [`targets::measured_target`] that of a measurement of some qubits.
+//!
+//! The check of statements calls it.
+#![tactic(auto)]
+
+pub mod targets;
