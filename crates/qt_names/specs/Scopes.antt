@@ -1,6 +1,6 @@
 -- Scopes of names: OpenQASM 3.0 live specification, "Scoping of variables"; Cross et al. 2022.
 -- The scopes that are open are a list with the innermost first. A scope is the list of its entries, and no name is declared twice in it.
-use Rattle.std.specs.Prelude.{◌≡◌, ◌≢◌, nat_eq, Bool, false, List, [], ◌∷◌, ◌++◌, Option, Some, None, is_some, Result, Ok, Err, if◌then◌else◌}
+use Rattle.std.specs.Prelude.{◌≡◌, ◌≢◌, nat_eq, Bool, true, false, List, [], ◌∷◌, ◌++◌, Option, Some, None, is_some, Result, Ok, Err, if◌then◌else◌}
 use Rattle.std.specs.Option.{option_or}
 use Rattle.std.specs.Cmp.Lexicographic.{pointwise}
 use denote.Ref.{Bor}
@@ -27,6 +27,11 @@ entered scopes = [] ∷ scopes
 abbrev pub left : List (List Entry) → List (List Entry)
 left (scope ∷ next ∷ outer) = next ∷ outer
 left scopes = scopes
+
+-- the global scope alone is open
+abbrev pub is_outermost : List (List Entry) → Bool
+is_outermost (scope ∷ []) = true
+is_outermost _ = false
 
 -- the innermost scope has the name
 abbrev pub declares : List (List Entry) → Name → Bool

@@ -1,6 +1,6 @@
 ghost use Rattle.std.specs.Prelude.{◌≡◌, [], ◌∷◌, reverse, OnOk, OnErr};
 ghost use Rattle.std.specs.Option.{option_copied};
-ghost use Rattle.qt_names.specs.Scopes.{declares, entered, found, left, Declares, Finds};
+ghost use Rattle.qt_names.specs.Scopes.{declares, entered, found, is_outermost, left, Declares, Finds};
 ghost use Rattle.qt_names.specs.Undoing.{taken_back};
 
 use crate::named::Named;
@@ -78,6 +78,13 @@ impl Scopes {
         if let Some(inner) = self.outer.pop() {
             self.inner = inner;
         }
+    }
+
+    /// Whether the global scope alone is open.
+    pub fn is_outermost(&self) -> bool
+        ensures { result ≡ is_outermost self.now }
+    {
+        self.outer.is_empty()
     }
 
     /// Adds a name to the innermost scope. E9 exactly where that has it already. After a refusal all is as it was.

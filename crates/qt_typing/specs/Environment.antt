@@ -6,7 +6,7 @@ use Rattle.qt_const_rules.specs.declared.consts.Known.{Known}
 use Rattle.qt_const_rules.specs.declared.modes.Mode.{Mode}
 use Rattle.qt_const.specs.Value.{value_of, type_reading}
 use Rattle.qt_names.specs.Entries.{Entry, Name}
-use Rattle.qt_names.specs.Scopes.{declaration, entered, left}
+use Rattle.qt_names.specs.Scopes.{declaration, entered, is_outermost, left}
 use Rattle.qt_names.specs.declared.named.Named.{Named}
 use Rattle.qt_tree.specs.declared.expression.Expr.{Expr}
 use Rattle.qt_tree.specs.declared.expression.Scalar.{Scalar}
@@ -82,10 +82,7 @@ declare_in_both place name named known = λ s.
 
 -- the innermost scope is the global one of the program. The scope of a subroutine's body stands in another one
 unfoldable pub is_global : State → Bool
-is_global s = is_one s.names.scopes where
-  is_one : List (List Entry) → Bool
-  is_one (scope ∷ []) = true
-  is_one _ = false
+is_global s = is_outermost s.names.scopes
 
 unfoldable pub enter : Typing (Unit {0})
 enter = λ s. Ok (tt, record s { names = record { scopes = entered s.names.scopes; consts = s.names.consts } })
