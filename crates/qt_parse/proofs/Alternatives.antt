@@ -1,6 +1,7 @@
 -- Items and statements with a body: the next terminal decides which form is read.
-use Rattle.std.proofs.Common.{◌≡◌, ℕ, List, [], ◌∷◌, true, false, None, ap, refl}
+use Rattle.std.proofs.Common.{◌≡◌, ℕ, List, [], ◌∷◌, true, false, None, Ok, Err, ap, refl}
 use Rattle.qt_tree.specs.declared.place.Place.{Place}
+use Rattle.qt_tree.specs.declared.statement.StatementForm.{StatementForm}
 use Rattle.qt_tree.specs.declared.program.Item.{Item}
 use Rattle.qt_tree.specs.declared.program.Item.TheVariants as i
 use Rattle.qt_terminals.specs.declared.terminal.Terminal.{Terminal}
@@ -10,6 +11,7 @@ use Rattle.qt_terminals.specs.Terminals.{PlacedTerminal, stream}
 use Rattle.qt_grammar.specs.Sorts.{item_tail}
 use Rattle.qt_grammar.specs.Form.{Form, member}
 use Rattle.qt_grammar.specs.Lookahead.{first}
+use Rattle.qt_grammar.specs.Outcome.{Outcome, and_then}
 use Rattle.qt_grammar.specs.Language as g
 use Rattle.qt_expr.proofs.Alternatives.{DiffersFrom, none_of, alternative, last_alternative, nth, before}
 use Rattle.qt_expr.specs.Parser.{reading}
@@ -70,6 +72,17 @@ module _ (tokens : List PlacedTerminal) (levels at : ℕ) where
   pub statement_item_is : DiffersFrom ((stream tokens at).terminal) other_terminals → read_global tokens levels at ≡ read_statement_item tokens levels ((stream tokens at).place) at
   unfolding read_global read_statement_item
   statement_item_is d = ap (λ out. applied {A = Place} {B = Item} ((stream tokens at).place) out) (last_alternative tokens levels None at {s = item_tail} others g.statement_item (none_of ((stream tokens at).terminal) other_terminals d))
+
+  item_made : (place : Place) (out : Outcome StatementForm)
+      → applied {A = Place} {B = Item} place (and_then {A = StatementForm} {B = Place → Item} out (λ x j. Ok ((λ at. i.Statement (record { place = at; form = x })), j)))
+      ≡ and_then {A = StatementForm} {B = Item} out (λ x j. Ok (i.Statement (record { place = place; form = x }), j))
+  item_made place (Ok z) = refl
+  item_made place (Err x) = refl
+
+  -- the reader of statements stays shut
+  pub statement_item_made : (place : Place) → read_statement_item tokens levels place at ≡ and_then (read_statement_form tokens levels at) (λ x j. Ok (i.Statement (record { place = place; form = x }), j))
+  unfolding read_statement_item read_statement_form
+  statement_item_made place = item_made place (reading tokens levels g.statement_form None at)
 
   -- ---- statements with a body
 

@@ -29,7 +29,7 @@ use sqlite_items::Items;
 use std::alloc::Global;
 
 /// A statement as an item.
-#[tactic(auto, unfolding(crate::specs::Parser::read_statement_item, qt_simple_statements::specs::Parser::read_statement_form))]
+#[tactic(auto, using(crate::proofs::Alternatives::statement_item_made))]
 fn statement_item(
     alloc: Global,
     tokens: &TokenStream<'_>,
