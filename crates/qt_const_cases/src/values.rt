@@ -16,6 +16,7 @@ use qt_rows::row::Row;
 use qt_tree::expression::{Expr, Scalar};
 use qt_tree::place::Place;
 use qt_value::types::ValueType;
+use sqlite_items::Boxed;
 use std::alloc::Global;
 use std::fmt::Debug;
 
@@ -29,32 +30,53 @@ const HERE: Place = Place {
     column: 4,
 };
 
-fn show<T: Debug + Drop>(value: T, answer: &mut Answer) {
+fn write_debug<T: Debug>(value: &T, answer: &mut Answer) {
     write!(answer, "{value:?}");
 }
 
-/// What was read before the last of so many tokens. Where something else was, the answer says so.
+fn show<T: Debug + Drop>(value: T, answer: &mut Answer) {
+    write_debug(&value, answer);
+}
+
+/// What was read. Where nothing was, the answer is the refusal.
+fn found<T>(read: Result<T, ParseRefusal>, answer: &mut Answer) -> Option<T> {
+    match read {
+        Ok(found) => Some(found),
+        Err(refusal) => {
+            write_debug(&refusal, answer);
+            None
+        }
+    }
+}
+
+/// What was read before the last of so many tokens, in a box. Where something else was, the answer says so.
 fn whole<T: Drop>(
+    alloc: Global,
     read: Result<(T, usize), ParseRefusal>,
     count: usize,
     answer: &mut Answer,
-) -> Option<T> {
-    match read {
-        Ok((whole, behind)) if behind.saturating_add(1) == count => return Some(whole),
-        Ok(_) => answer.push_str("more than an expression"),
-        Err(refusal) => write!(answer, "{refusal:?}"),
+) -> Option<Boxed<T>> {
+    let (whole, behind) = found(read, answer)?;
+    if behind.saturating_add(1) == count {
+        return answer.given(Boxed::new(alloc, whole));
     }
+    answer.push_str("more than an expression");
     None
 }
 
 /// The expression of a text, of which each token but the end belongs to it. Where it has none, the answer says why.
-fn expression_in(alloc: Global, text: &str, answer: &mut Answer) -> Option<Expr> {
+fn expression_in(alloc: Global, text: &str, answer: &mut Answer) -> Option<Boxed<Expr>> {
     if text.len() > LONGEST {
         answer.push_str("too long");
         return None;
     }
     match lex(alloc, text, 0) {
-        Ok(tokens) => whole(parse_expr(alloc, text, &tokens, 0, 0), tokens.len(), answer),
+        Ok(tokens) => whole(
+            alloc,
+            parse_expr(alloc, text, &tokens, 0, 0),
+            tokens.len(),
+            answer,
+        ),
         Err(_) => {
             answer.push_str("no tokens");
             None
@@ -65,14 +87,14 @@ fn expression_in(alloc: Global, text: &str, answer: &mut Answer) -> Option<Expr>
 /// `value EXPRESSION`
 pub fn value(alloc: Global, text: &str, consts: &Consts, answer: &mut Answer) {
     if let Some(expr) = expression_in(alloc, text, answer) {
-        show(const_value(alloc, &expr, consts, HERE), answer);
+        show(const_value(alloc, expr.get(), consts, HERE), answer);
     }
 }
 
 /// `exponent EXPRESSION`
 pub fn exponent(alloc: Global, text: &str, consts: &Consts, answer: &mut Answer) {
     if let Some(expr) = expression_in(alloc, text, answer) {
-        show(exponent_value(alloc, &expr, consts, HERE), answer);
+        show(exponent_value(alloc, expr.get(), consts, HERE), answer);
     }
 }
 
@@ -87,7 +109,7 @@ fn cast_type(expr: &Expr) -> Option<&Scalar> {
 /// `type CAST`
 pub fn type_of_cast(alloc: Global, text: &str, consts: &Consts, answer: &mut Answer) {
     if let Some(expr) = expression_in(alloc, text, answer) {
-        match cast_type(&expr) {
+        match cast_type(expr.get()) {
             Some(to) => show(scalar_type(alloc, to, consts, HERE), answer),
             None => answer.push_str("no cast"),
         }
