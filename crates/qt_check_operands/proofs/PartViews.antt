@@ -24,9 +24,13 @@ use Rattle.qt_typing.specs.Indexes.{Part, IndexPart, Single, Bounds, Several, al
 use Rattle.qt_typing.specs.Operators.{before_operand}
 use Rattle.qt_typing.specs.Expressions.{form_typed, part_of, index_part, typed_of, constant_operand, name_operand, builtin_at}
 use Rattle.qt_typing.specs.Expressions.{builtin_call, between_operands, inner_mode}
-use Rattle.qt_check_operands.specs.Parts.{part, index_parts}
+use Rattle.qt_check_operands.specs.Parts.{index_parts}
 use Rattle.qt_check_operands.proofs.EveryIndex.{all_of_map}
 use Rattle.qt_check_operands.proofs.Written.{expr_rolls, index_rolls, parts, expr_written, scalar_written, range_written}
+
+-- a part as it is written
+abbrev pub part : Names → Place → Expr → Part
+part names place expr = record { written = expr; typed = λ m. typed_of names m place expr }
 
 pub part_is : (names : Names) (place : Place) (expr : Expr) → part_of names place expr ≡ part names place expr
 part_is names place expr = ap (λ t. record { written = t; typed = λ m. typed_of names m place expr }) (expr_written names place expr)

@@ -1,19 +1,13 @@
--- A part of a tree beside how it is written, and what indexes lead to (OpenQASM 3.0 live specification, "Index sets and slicing"; Cross
--- et al. 2022).
+-- What indexes lead to (OpenQASM 3.0 live specification, "Index sets and slicing"; Cross et al. 2022).
 use Rattle.std.specs.Prelude.{◌≡◌, ◌≢◌, List, map, Ok, Err}
-use Rattle.qt_tree.specs.declared.expression.Expr.{Expr}
 use Rattle.qt_tree.specs.declared.expression.Index.{Index}
 use Rattle.qt_tree.specs.declared.place.Place.{Place}
 use Rattle.qt_tree.specs.declared.refusal.TextRefusal.TheVariants as refusal
 use Rattle.qt_typed.specs.declared.expression.TypedVariable.{TypedVariable}
 use Rattle.qt_typing.specs.declared.names.Names.{Names}
 use Rattle.qt_typing.specs.Checked.{Checked}
-use Rattle.qt_typing.specs.Indexes.{Part, IndexPart, Reached}
-use Rattle.qt_typing.specs.Expressions.{typed_of, index_part}
-
--- a part as it is written
-abbrev pub part : Names → Place → Expr → Part
-part names place expr = record { written = expr; typed = λ m. typed_of names m place expr }
+use Rattle.qt_typing.specs.Indexes.{IndexPart, Reached}
+use Rattle.qt_typing.specs.Expressions.{index_part}
 
 -- indexes, and how they are typed
 abbrev pub index_parts : Names → Place → List Index → List IndexPart
