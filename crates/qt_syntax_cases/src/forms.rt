@@ -32,15 +32,13 @@ fn depth_in(row: &mut Row<'_>) -> u32
     depth
 }
 
-fn write_tree<T: Tree>(tree: &T, behind: usize, answer: &mut Answer) {
-    write!(answer, "{behind}");
-    tree.write(answer);
-}
-
 fn write_before<T: Tree + Drop>(found: Result<(T, usize), ParseRefusal>, answer: &mut Answer) {
-    match found {
-        Ok((tree, behind)) => write_tree(&tree, behind, answer),
-        Err(refusal) => write_refusal(refusal, answer),
+    match &found {
+        Ok((tree, behind)) => {
+            write!(answer, "{behind}");
+            tree.write(answer);
+        }
+        Err(refusal) => write_refusal(*refusal, answer),
     }
 }
 
