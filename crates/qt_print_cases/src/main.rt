@@ -1,10 +1,10 @@
 //! Cases of the printer and of the round trip as a program.
 //!
 //! It reads rows from the standard input, one a line, and prints the answer to each as one line. A row is a call and a text, in
-//! which `\n`, `\r`, `\t` and `\\` are the characters that they are in Rust. `format TEXT` is answered with the canonical text of the program
-//! of the text, `sprawl TEXT` with that of the text with comments in every gap, and `again TEXT` with `same` where the program
-//! that is printed and read back has the same canonical text. A text that is no program is answered with its refusal, and a line that
-//! is no row with `no row`.
+//! which `\n`, `\r`, `\t`, `\0` and `\\` are the characters that they are in Rust. `format TEXT` is answered with the canonical text
+//! of the program of the text, `sprawl TEXT` with that of the text with comments in every gap, and `again TEXT` with `same` where the
+//! program that is printed and read back has the same canonical text. A text that is no program is answered with its refusal, and a
+//! line that is no row with `no row`.
 //!
 //! `format_rows.py` has the table of texts and writes the rows and the answers that are wanted.
 #![tactic(auto)]
