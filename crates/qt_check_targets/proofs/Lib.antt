@@ -1,1 +1,2 @@
+pub mod QubitViews
 pub mod TargetViews

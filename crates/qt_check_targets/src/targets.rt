@@ -1,12 +1,11 @@
 //! Targets of assignments and measurements.
 
 ghost use Rattle.std.specs.Prelude.{◌≡◌, IfOk};
-ghost use Rattle.qt_typed.specs.Choices.{qubit_count};
 ghost use Rattle.qt_typing.specs.Checked.{Gives};
-ghost use Rattle.qt_typing.specs.Qubits.{outcomes_fit};
 ghost use Rattle.qt_typing.specs.Targets as spec;
 ghost use Rattle.qt_check_operands.specs.Parts.{index_parts};
 
+use crate::qubits::outcomes_fit;
 use qt_check_operands::expression::{reached, steps_from};
 use qt_check_operands::left::IndexesLeft;
 use qt_check_operands::names::unfit;
@@ -116,29 +115,6 @@ fn is_fixed_variable(variable: &TypedVariable) -> bool
         TypedVariable::Slot { .. } => true,
         TypedVariable::Element { indexes, .. } => all_constant(indexes.as_slice()),
     }
-}
-
-/// How many qubits these are.
-pub fn qubit_count(of: &TypedQubits) -> u64
-    ensures { result ≡ qubit_count of.now }
-{
-    match of {
-        TypedQubits::Single { .. } => 1,
-        TypedQubits::Register { qubits } => qubits.size(),
-    }
-}
-
-/// Whether so many bits take the outcomes of so many qubits: else E14.
-#[tactic(auto, unfolding(qt_typing::specs::Qubits::outcomes_fit))]
-pub fn outcomes_fit(place: Place, width: u8, of: &TypedQubits) -> Result<(), TextRefusal>
-    ensures { Gives (outcomes_fit place width of.now) result }
-{
-    let count = qubit_count(of);
-    if u64::from(width) == count {
-        return Ok(());
-    }
-    let told = u32::try_from(count).unwrap_or(u32::MAX);
-    Err(TextRefusal::E14(place, u32::from(width), told))
 }
 
 /// The target of a measurement of some qubits, which is known before the run: else E11 `register`. E14 of another number of bits.
