@@ -60,14 +60,21 @@ fn tell(state: &State, done: Result<(), TextRefusal>, answer: &mut Answer) {
     }
     let (slots, qubits) = (state.slots, state.qubits);
     let (constants, variables) = (state.names.consts.len(), state.variables.len());
-    write!(answer, " slots {slots} qubits {qubits} constants {constants} variables {variables}");
+    write!(
+        answer,
+        " slots {slots} qubits {qubits} constants {constants} variables {variables}"
+    );
 }
 
 /// `constant TYPE SIZE NAME NUMBER`
 pub fn constant(alloc: Global, state: &mut State, row: &mut Row<'_>, answer: &mut Answer) {
     let scalar = scalar_in(alloc, row, answer);
     let name = row.word();
-    if let Some(number) = number_in(alloc, row, answer) {
+    let number = number_in(alloc, row, answer);
+    if row.refused {
+        return;
+    }
+    if let Some(number) = number {
         let done = constant_of(alloc, state, HERE, &scalar, name, number.get());
         tell(state, done, answer);
     }
@@ -76,7 +83,11 @@ pub fn constant(alloc: Global, state: &mut State, row: &mut Row<'_>, answer: &mu
 /// `qubit SIZE NAME`
 pub fn qubit(alloc: Global, state: &mut State, row: &mut Row<'_>, answer: &mut Answer) {
     let size = size_in(alloc, row, answer);
-    let done = qubit_declaration(alloc, state, HERE, held(&size), row.word());
+    let name = row.word();
+    if row.refused {
+        return;
+    }
+    let done = qubit_declaration(alloc, state, HERE, held(&size), name);
     tell(state, done, answer);
 }
 
@@ -84,6 +95,9 @@ pub fn qubit(alloc: Global, state: &mut State, row: &mut Row<'_>, answer: &mut A
 pub fn qreg(alloc: Global, state: &mut State, row: &mut Row<'_>, answer: &mut Answer) {
     let name = row.word();
     let size = size_in(alloc, row, answer);
+    if row.refused {
+        return;
+    }
     let done = qubit_register(alloc, state, HERE, name, held(&size));
     tell(state, done, answer);
 }
@@ -92,6 +106,9 @@ pub fn qreg(alloc: Global, state: &mut State, row: &mut Row<'_>, answer: &mut An
 pub fn creg(alloc: Global, state: &mut State, row: &mut Row<'_>, answer: &mut Answer) {
     let name = row.word();
     let size = size_in(alloc, row, answer);
+    if row.refused {
+        return;
+    }
     let done = bit_register(alloc, state, HERE, name, held(&size));
     tell(state, done.map(drop), answer);
 }

@@ -47,12 +47,14 @@ pub fn input(alloc: Global, given: &mut Given, row: &mut Row<'_>, answer: &mut A
     let (name, slot) = (row.word(), row.u32());
     if let Some(name) = answer.given(Label::new(alloc, name)) {
         let lengths = Lengths::from_vec(Vec::new(alloc));
-        answer.require(given.inputs.push(TypedOutput {
-            name,
-            kind,
-            slot,
-            lengths,
-        }));
+        answer.require(
+            given.inputs.push(TypedOutput {
+                name,
+                kind,
+                slot,
+                lengths,
+            }),
+        );
     }
 }
 

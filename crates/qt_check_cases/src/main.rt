@@ -1,0 +1,57 @@
+//! Cases of the check of expressions, as a program.
+//!
+//! It reads rows from the standard input, one a line, and prints the answer to each as one line. Names stay from row to row.
+//!
+//! - `variable NAME TYPE WIDTH SLOT LENGTH ..` declares a variable, or an array of these lengths, at a slot; `constant NAME TYPE WIDTH BITS`
+//!   a constant, and `phase NAME UNITS` a constant phase of so many units of π/2^32. `TYPE` is `bool`, `bit`, `int`, `uint` or `angle`.
+//! - `typed EXPRESSION`: the type of an expression and the outermost form that it is typed as, or its refusal.
+//! - `value TYPE WIDTH EXPRESSION`: the same of one where a value of that type is wanted.
+//!
+//! A line that is no row is answered with `no row`.
+#![tactic(auto)]
+
+mod expressions;
+mod names;
+mod shown;
+mod words;
+
+use qt_const::consts::Consts;
+use qt_names::scopes::Scopes;
+use qt_rows::answer::Answer;
+use qt_rows::cases::{Cases, answer_lines};
+use qt_rows::row::Row;
+use qt_typing::names::Names;
+use std::alloc::Global;
+use std::io;
+use std::process::ExitCode;
+
+/// The names that stay from row to row.
+#[derive(Drop)]
+struct CheckCases {
+    names: Names,
+}
+
+impl Cases for CheckCases {
+    fn answer(&mut self, alloc: Global, row: &mut Row<'_>, answer: &mut Answer) {
+        let names = &mut self.names;
+        match row.word() {
+            "variable" => names::variable(alloc, names, row, answer),
+            "constant" => names::constant(alloc, names, row, answer),
+            "phase" => names::phase(alloc, names, row, answer),
+            "typed" => expressions::typed_row(alloc, names, row, answer),
+            "value" => expressions::value_row(alloc, names, row, answer),
+            _ => row.refuse(),
+        }
+    }
+}
+
+fn main(rt: HostRuntime) -> io::Result<ExitCode> {
+    let alloc = rt.alloc();
+    let mut cases = CheckCases {
+        names: Names {
+            scopes: Scopes::new(alloc),
+            consts: Consts::new(alloc),
+        },
+    };
+    answer_lines(alloc, &mut cases, rt.reader(), io::writer(&rt))
+}
