@@ -1,0 +1,206 @@
+-- Small programs, computed: their code, and that it ends as the meaning says.
+use denote.Hole.Carrier.{hidden}
+use Rattle.std.proofs.Common.{◌≡◌, refl, ℕ, ◌+◌, true, List, [], ◌∷◌, ◌++◌, Option, Some, None}
+use Rattle.qt_tree.specs.declared.place.Place.{Place}
+use Rattle.qt_ring.specs.State.{zero_state, project, vanishes}
+use Rattle.qt_ring.specs.Ring.{plus, times, minus, nil, one, imaginary, the_omega}
+use Rattle.qt_value.specs.declared.operators.Op.TheVariants as op
+use Rattle.qt_value.specs.declared.types.ValueType.TheVariants as kind
+use Rattle.qt_registers.specs.declared.fixed.FixedQubit.TheVariants as fixed
+use Rattle.qt_typed.specs.declared.call.TypedQubit.TheVariants as qubit
+use Rattle.qt_typed.specs.declared.call.TypedQubits.TheVariants as qubits
+use Rattle.qt_typed.specs.declared.expression.Logical.TheVariants as logical
+use Rattle.qt_typed.specs.declared.expression.TypedExpr.{TypedExpr}
+use Rattle.qt_typed.specs.declared.expression.TypedExpr.TheBlock.{hidden-the_row-TypedExpr-0, hidden-the_row-TypedExpr-1}
+use Rattle.qt_typed.specs.declared.expression.TypedExpr.TheVariants as expression
+use Rattle.qt_typed.specs.declared.expression.TypedVariable.TheVariants as variable
+use Rattle.qt_typed.specs.declared.statement.TypedAction.{TypedAction}
+use Rattle.qt_typed.specs.declared.statement.TypedAction.TheVariants as action
+use Rattle.qt_typed.specs.declared.statement.TypedRight.TheVariants as right
+use Rattle.qt_typed.specs.declared.statement.TypedStatement.{TypedStatement}
+use Rattle.qt_typed.specs.declared.statement.TypedStatement.TheBlock.{hidden-the_row-TypedStatement-0}
+use Rattle.qt_typed.specs.declared.statement.TypedStatement.TheVariants as statement
+use Rattle.qt_meaning.specs.Places.{Site}
+use Rattle.qt_meaning.specs.Points.{Leaf, leaf, On}
+use Rattle.qt_meaning.specs.Statements.{list_tree}
+use Rattle.qt_meaning.specs.Values.{converted_to, is_true, number_of, operated, place_in, with_bit}
+use Rattle.qt_instructions.specs.declared.reference.QubitRef.TheVariants as reference
+use Rattle.qt_instructions.specs.declared.instruction.Instr.{Instr}
+use Rattle.qt_instructions.specs.declared.instruction.Instr.TheVariants as instr
+use Rattle.qt_instructions.specs.declared.instruction.Store.TheVariants as store
+use Rattle.qt_instructions.specs.declared.parts.Parts.{Parts}
+use Rattle.qt_code.specs.Tail.{leaves_from_start}
+use Rattle.qt_code.specs.Validity.{is_valid}
+use Rattle.qt_flatten.specs.Expressions.{binary, on_places, operand, place_kind}
+use Rattle.qt_flatten.specs.Straight.{straight_code}
+
+-- ---- programs, their code and their meaning
+
+abbrev line : ℕ → Place
+line n = record { file = 0; line = n; column = 1 }
+
+abbrev at_line : ℕ → TypedAction → TypedStatement
+at_line n action = statement.Simple (record { place = line n; tokens = 1 }) action
+
+abbrev site : Site
+site = record { choices = 0; base = 0; qubits = 1; registers = λ n. [] }
+
+abbrev or_nothing : Option (List (Instr × Place)) → List (Instr × Place)
+or_nothing None = []
+or_nothing (Some code) = code
+
+abbrev instructions_of : List (Instr × Place) → List Instr
+instructions_of [] = []
+instructions_of (l ∷ ls) = l.0 ∷ instructions_of ls
+
+abbrev places_of : List (Instr × Place) → List Place
+places_of [] = []
+places_of (l ∷ ls) = l.1 ∷ places_of ls
+
+abbrev code_of : List TypedStatement → List (Instr × Place)
+code_of program = or_nothing (straight_code program site 0)
+
+-- one qubit, three slots, eight work cells
+abbrev parts_of : List TypedStatement → Parts
+parts_of program =
+    record {
+      instructions = instructions_of (code_of program) ++ (instr.End ∷ []);
+      places = places_of (code_of program) ++ (line 100 ∷ []);
+      qubits = 1;
+      slots = 3;
+      cells = 8;
+      start = 0 ∷ 0 ∷ 0 ∷ [];
+      layout = [];
+      end = line 100;
+    }
+
+abbrev stores : List Leaf → List (List ℕ)
+stores [] = []
+stores (l ∷ ls) = l.point.store ∷ stores ls
+
+abbrev stores_in_meaning : List TypedStatement → ℕ → List (List ℕ)
+stores_in_meaning program fuel =
+    stores (list_tree (λ n. 0) (λ n given at. leaf On) program site
+    (record { store = 0 ∷ 0 ∷ 0 ∷ []; state = zero_state 1; fuel = fuel; trail = [] }))
+
+abbrev stores_in_code : List TypedStatement → ℕ → List (List ℕ)
+stores_in_code program fuel = stores (leaves_from_start (parts_of program) fuel)
+
+-- ---- uint[8] x = 3; x += 4; bool b = x != 0 && 7 / x == 1;
+
+abbrev small : ℕ → TypedExpr
+small n = expression.Constant (record { kind = kind.Uint 8; bits = n })
+
+abbrev x : TypedExpr
+x = expression.Slot (kind.Uint 8) 0
+
+abbrev once : TypedExpr
+once =
+    expression.Logical logical.And (expression.Binary op.Ne x (small 0))
+    (expression.Binary op.Eq (expression.Binary op.Div (small 7) x) (small 1))
+
+abbrev decided : List TypedStatement
+decided =
+    at_line 1 (action.Declare (kind.Uint 8) 0 (Some (right.Value (small 3))))
+    ∷ at_line 2 (action.Update (record { variable = variable.Slot (kind.Uint 8) 0; steps = []; kind = kind.Uint 8 }) op.Add (small 4))
+    ∷ at_line 3 (action.Declare kind.Bool 1 (Some (right.Value once))) ∷ []
+
+decided_code : instructions_of (code_of decided)
+    ≡ instr.Tick
+    ∷ instr.Load 0 3
+    ∷ instr.Put 0 0
+    ∷ instr.Tick
+    ∷ instr.Load 0 4
+    ∷ instr.Get 2 0
+    ∷ binary 0 op.Add (operand 2 (kind.Uint 8)) (operand 0 (kind.Uint 8))
+    ∷ instr.Cast 0 (operand 0 (kind.Uint 8)) (kind.Uint 8)
+    ∷ instr.Put 0 0
+    ∷ instr.Tick
+    ∷ instr.Get 0 0
+    ∷ instr.Load 1 0
+    ∷ binary 0 op.Ne (operand 0 (kind.Uint 8)) (operand 1 (kind.Uint 8))
+    ∷ instr.JumpIf 0 15
+    ∷ instr.Jump 20
+    ∷ instr.Load 0 7
+    ∷ instr.Get 1 0
+    ∷ binary 0 op.Div (operand 0 (kind.Uint 8)) (operand 1 (kind.Uint 8))
+    ∷ instr.Load 1 1
+    ∷ binary 0 op.Eq (operand 0 (kind.Uint 8)) (operand 1 (kind.Uint 8))
+    ∷ instr.Put 1 0 ∷ []
+unfolding hidden hidden-the_row-TypedExpr-0 hidden-the_row-TypedExpr-1 hidden-the_row-TypedStatement-0
+decided_code = refl
+
+decided_is_valid : is_valid (parts_of decided) ≡ true
+unfolding hidden hidden-the_row-TypedExpr-0 hidden-the_row-TypedExpr-1 hidden-the_row-TypedStatement-0
+decided_is_valid = refl
+
+decided_in_code : stores_in_code decided 3 ≡ (7 ∷ 1 ∷ 0 ∷ []) ∷ []
+unfolding zero_state operated converted_to is_true hidden hidden-the_row-TypedExpr-0 hidden-the_row-TypedExpr-1 hidden-the_row-TypedStatement-0
+decided_in_code = refl
+
+decided_in_meaning : stores_in_meaning decided 3 ≡ (7 ∷ 1 ∷ 0 ∷ []) ∷ []
+unfolding zero_state operated converted_to is_true hidden hidden-the_row-TypedExpr-0 hidden-the_row-TypedExpr-1 hidden-the_row-TypedStatement-0
+decided_in_meaning = refl
+
+-- ---- array[uint[8], 2] a = {1, 2}; a[-1] = 9 / a[0]; bit c = measure q;
+
+abbrev whole : ℕ → TypedExpr
+whole n = expression.Constant (record { kind = kind.Int 64; bits = n })
+
+abbrev of_a : TypedExpr → TypedExpr
+of_a index = expression.Element (kind.Uint 8) 0 (2 ∷ []) (index ∷ [])
+
+-- -1 in two's complement
+abbrev last : TypedExpr
+last = whole 18446744073709551615
+
+abbrev elements : List TypedStatement
+elements =
+    at_line 1 (action.DeclareArray (kind.Uint 8) 0 2 (Some (small 1 ∷ small 2 ∷ [])))
+    ∷ at_line 2 (action.Assign
+    (record { variable = variable.Element (kind.Uint 8) 0 (2 ∷ []) (last ∷ []); steps = []; kind = kind.Uint 8 })
+    (right.Value (expression.Binary op.Div (small 9) (of_a (whole 0)))))
+    ∷ at_line 3 (action.Declare (kind.Bit 1) 2 (Some (right.Measure (qubits.Single (qubit.Fixed (fixed.Number 0)))))) ∷ []
+
+-- an index in the next cell is tested, counted from the beginning, and joins the place in the cell
+abbrev indexed : ℕ → List Instr → List Instr
+indexed cell rest =
+    instr.GetAt (cell + 2) 0 2 (operand (cell + 1) (kind.Int 64))
+    ∷ instr.Load (cell + 2) 2
+    ∷ instr.Cast (cell + 1) (operand (cell + 1) (kind.Int 64)) place_kind
+    ∷ on_places (cell + 1) op.Add (cell + 2)
+    ∷ on_places (cell + 1) op.Rem (cell + 2)
+    ∷ on_places cell op.Mul (cell + 2)
+    ∷ on_places cell op.Add (cell + 1) ∷ rest
+
+elements_code : instructions_of (code_of elements)
+    ≡ instr.Tick
+    ∷ instr.Load 0 1
+    ∷ instr.Load 1 2
+    ∷ instr.Put 0 0
+    ∷ instr.Put 1 1
+    ∷ instr.Tick
+    ∷ instr.Load 0 9
+    ∷ instr.Load 1 0
+    ∷ instr.Load 2 0
+    ∷ indexed 1 (instr.GetAt 1 0 2 (operand 1 place_kind)
+    ∷ binary 0 op.Div (operand 0 (kind.Uint 8)) (operand 1 (kind.Uint 8))
+    ∷ instr.Load 1 0
+    ∷ instr.Load 2 18446744073709551615
+    ∷ indexed 1 (instr.PutAt 0 2 (operand 1 place_kind) 0
+    ∷ instr.Tick
+    ∷ instr.Measure (reference.At 0) (store.Bit 2 0) ∷ []))
+unfolding hidden hidden-the_row-TypedExpr-0 hidden-the_row-TypedExpr-1 hidden-the_row-TypedStatement-0
+elements_code = refl
+
+elements_is_valid : is_valid (parts_of elements) ≡ true
+unfolding hidden hidden-the_row-TypedExpr-0 hidden-the_row-TypedExpr-1 hidden-the_row-TypedStatement-0
+elements_is_valid = refl
+
+elements_in_code : stores_in_code elements 3 ≡ (1 ∷ 9 ∷ 0 ∷ []) ∷ []
+unfolding zero_state operated converted_to number_of place_in project vanishes with_bit plus times minus nil one imaginary the_omega hidden hidden-the_row-TypedExpr-0 hidden-the_row-TypedExpr-1 hidden-the_row-TypedStatement-0
+elements_in_code = refl
+
+elements_in_meaning : stores_in_meaning elements 3 ≡ (1 ∷ 9 ∷ 0 ∷ []) ∷ []
+unfolding zero_state operated converted_to number_of place_in project vanishes with_bit plus times minus nil one imaginary the_omega hidden hidden-the_row-TypedExpr-0 hidden-the_row-TypedExpr-1 hidden-the_row-TypedStatement-0
+elements_in_meaning = refl

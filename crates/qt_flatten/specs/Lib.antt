@@ -1,0 +1,4 @@
+pub mod Lengths
+pub mod Expressions
+pub mod Storing
+pub mod Straight
