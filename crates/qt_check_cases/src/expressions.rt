@@ -19,7 +19,7 @@ use std::alloc::Global;
 const LONGEST: usize = 65536;
 
 /// The expression of a text, or the answer that it has none.
-fn parsed(alloc: Global, text: &str, answer: &mut Answer) -> Option<Boxed<Expr>> {
+pub fn parsed(alloc: Global, text: &str, answer: &mut Answer) -> Option<Boxed<Expr>> {
     if text.len() > LONGEST {
         answer.push_str("too long");
         return None;

@@ -6,6 +6,10 @@
 //!   a constant, and `phase NAME UNITS` a constant phase of so many units of π/2^32. `TYPE` is `bool`, `bit`, `int`, `uint` or `angle`.
 //! - `typed EXPRESSION`: the type of an expression and the outermost form that it is typed as, or its refusal.
 //! - `value TYPE WIDTH EXPRESSION`: the same of one where a value of that type is wanted.
+//! - `register NAME FIRST SIZE` declares so many qubits, from the first on, and a single one for the size 0; `qubits NAME` and
+//!   `qubits NAME[INDEX]`, with a place or a range, tell which qubits are named.
+//! - `target NAME[INDEX, ..]..`: the type of what is stored there, the slot, and how many indexes and steps to bits there are;
+//!   `measured NAME TARGET`: the same where the outcomes of a name's qubits are stored.
 //!
 //! A line that is no row is answered with `no row`.
 #![tactic(auto)]
@@ -13,6 +17,7 @@
 mod expressions;
 mod names;
 mod shown;
+mod targets;
 mod words;
 
 use qt_const::consts::Consts;
@@ -40,6 +45,10 @@ impl Cases for CheckCases {
             "phase" => names::phase(alloc, names, row, answer),
             "typed" => expressions::typed_row(alloc, names, row, answer),
             "value" => expressions::value_row(alloc, names, row, answer),
+            "register" => targets::register(alloc, names, row, answer),
+            "qubits" => targets::qubits(alloc, names, row, answer),
+            "target" => targets::target(alloc, names, row, answer),
+            "measured" => targets::measured(alloc, names, row, answer),
             _ => row.refuse(),
         }
     }

@@ -22,7 +22,7 @@ pub const HERE: Place = Place {
 };
 
 /// Declares a name, of which that is known where a constant is wanted.
-fn declare(names: &mut Names, name: &str, named: Named, known: Known, answer: &mut Answer) {
+pub fn declare(names: &mut Names, name: &str, named: Named, known: Known, answer: &mut Answer) {
     match names.scopes.declare(name, named, HERE) {
         Ok(()) => {
             answer.require(names.consts.push(name, known));
