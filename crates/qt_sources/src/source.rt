@@ -14,7 +14,7 @@ pub fn check(alloc: Global, name: &str, text: &[u8]) -> Result<(), TextRefusal>
         (λ _. (source : Program) × IsTextOfProgram 0 text.now source)
         (IsReason name.now 0 text.now) }
 {
-    let _source = read(alloc, name, 0, text)?;
+    read(alloc, name, 0, text)?.discard();
     Ok(())
 }
 
@@ -26,5 +26,7 @@ pub fn canonical(alloc: Global, name: &str, text: &[u8]) -> Result<String, TextR
         (IsReason name.now 0 text.now) }
 {
     let source = read(alloc, name, 0, text)?;
-    Ok(print(alloc, &source)?)
+    let printed = print(alloc, &source);
+    source.discard();
+    Ok(printed?)
 }
