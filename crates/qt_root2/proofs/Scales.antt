@@ -1,6 +1,7 @@
 -- A number scaled, from what the steps of the scaling give.
-use Rattle.std.proofs.Common.{◌≡◌, ℕ, zero, suc, ◌+◌, ◌-◌, ◌<◌, ◌≤◌, sym, ap, ◌∙◌, subst, arith, ℤ, pos, negsuc, ◌+ℤ◌, ◌≤ℤ◌, ◌<ℤ◌}
+use Rattle.std.proofs.Common.{◌≡◌, ℕ, zero, suc, ◌+◌, ◌-◌, ◌<◌, ◌≤◌, sym, ap, ◌∙◌, subst, arith, ℤ, pos, negsuc, ◌+ℤ◌, ◌≤ℤ◌, ◌<ℤ◌, FitsSigned}
 use lib.IntN.{neg_ℤ}
+use mir.Syntax.{w32}
 use Rattle.std.specs.Prelude.{unsigned_abs}
 use Rattle.std.proofs.lemmas.Int.{ints}
 use Rattle.qt_root2.specs.declared.scale.Scale.{Scale}
@@ -10,6 +11,7 @@ use Rattle.qt_root2.proofs.Good.{narrow, good_times}
 use Rattle.qt_root2.proofs.Loops.{lifted_least}
 use Rattle.qt_root2.proofs.Reals.{lifted-lifted}
 use Rattle.qt_root2.proofs.Ring.{same_root2, times_comm, times_assoc, times-one, lifted-times, lifted_root2_same, unit_power_inverse}
+use Rattle.qt_root2.proofs.Words.{short, short-fits, short_size}
 
 -- ---- powers of 2 − √2
 
@@ -108,35 +110,43 @@ product_large x p y m n e l f =
     let P = λ (w : Root2). m ≤ℤ w.a in
     subst P (ap (λ w. lifted_root2 w n) e ∙ sym f) l
 
--- ---- the answers of the scaling, where w is the exponent of ε² as the code reads it
+-- ---- the answers of the scaling
 
-pub down_ok : (by : Scale) (x q r : Root2) (w : ℤ) (n : ℕ) → w ≡ by.units → by.twos <ℤ pos 0 → n ≡ unsigned_abs by.twos → lifted_root2 q n ≡ times_root2 x (power prime by.primes) → r ≡ times_root2 q (unit_power w) → IsScaled by x r
-down_ok by x q r w n e l s h f =
-    times_twos_down by.twos n (times_root2 x (factor by)) r l s
-    (ap (λ u. lifted_root2 u n) (f ∙ ap (λ z. times_root2 q (unit_power z)) e) ∙ quotient_times x q (power prime by.primes) (unit_power by.units) n h)
+-- what the code reads of a scale: its exponent of ε², and the size of its exponent of 2
+pub record IsRead (by : Scale) (n : ℕ) : Type 0 where
+  pub units : short by.units ≡ by.units
+  pub size : n ≡ unsigned_abs by.twos
 
-pub down_none : (by : Scale) (x : Root2) (m : ℤ) (n : ℕ) → by.twos <ℤ pos 0 → n ≡ unsigned_abs by.twos → ((y : Root2) → lifted_root2 y n ≡ times_root2 x (power prime by.primes) → ⊥) → (y : Root2) → IsScaled by x y → m ≤ℤ y.a
-down_none by x m n l s odd y h =
-    absurd (quotient_none x (power prime by.primes) by.units n odd y (from_times_twos_down by.twos n (times_root2 x (factor by)) y l s h))
+pub read_scale : (by : Scale) (n : ℕ) → FitsSigned w32 by.units → FitsSigned w32 by.twos → n ≡ unsigned_abs (short by.twos) → IsRead by n
+read_scale by n units twos e = record { units = short-fits by.units units; size = short_size by.twos n twos e }
 
-pub down_large : (by : Scale) (x q : Root2) (w m : ℤ) (n : ℕ) → w ≡ by.units → by.twos <ℤ pos 0 → n ≡ unsigned_abs by.twos → lifted_root2 q n ≡ times_root2 x (power prime by.primes) → m ≤ℤ (times_root2 q (unit_power w)).a → (y : Root2) → IsScaled by x y → m ≤ℤ y.a
-down_large by x q w m n e l s h large y k =
+pub down_ok : (by : Scale) (x q r : Root2) (n : ℕ) → IsRead by n → by.twos <ℤ pos 0 → lifted_root2 q n ≡ times_root2 x (power prime by.primes) → r ≡ times_root2 q (unit_power (short by.units)) → IsScaled by x r
+down_ok by x q r n s l h f =
+    times_twos_down by.twos n (times_root2 x (factor by)) r l s.size
+    (ap (λ u. lifted_root2 u n) (f ∙ ap (λ z. times_root2 q (unit_power z)) s.units) ∙ quotient_times x q (power prime by.primes) (unit_power by.units) n h)
+
+pub down_none : (by : Scale) (x : Root2) (m : ℤ) (n : ℕ) → IsRead by n → by.twos <ℤ pos 0 → ((y : Root2) → lifted_root2 y n ≡ times_root2 x (power prime by.primes) → ⊥) → (y : Root2) → IsScaled by x y → m ≤ℤ y.a
+down_none by x m n s l odd y h =
+    absurd (quotient_none x (power prime by.primes) by.units n odd y (from_times_twos_down by.twos n (times_root2 x (factor by)) y l s.size h))
+
+pub down_large : (by : Scale) (x q : Root2) (m : ℤ) (n : ℕ) → IsRead by n → by.twos <ℤ pos 0 → lifted_root2 q n ≡ times_root2 x (power prime by.primes) → m ≤ℤ (times_root2 q (unit_power (short by.units))).a → (y : Root2) → IsScaled by x y → m ≤ℤ y.a
+down_large by x q m n s l h large y k =
     let P = λ (z : ℤ). m ≤ℤ (times_root2 q (unit_power z)).a in
-    quotient_large x q (power prime by.primes) y by.units m n h (subst P e large) (from_times_twos_down by.twos n (times_root2 x (factor by)) y l s k)
+    quotient_large x q (power prime by.primes) y by.units m n h (subst P s.units large) (from_times_twos_down by.twos n (times_root2 x (factor by)) y l s.size k)
 
-pub up_ok : (by : Scale) (x p r : Root2) (w : ℤ) (n : ℕ) → w ≡ by.units → pos 0 ≤ℤ by.twos → n ≡ unsigned_abs by.twos → p ≡ times_root2 x (times_root2 (unit_power w) (power prime by.primes)) → r ≡ lifted_root2 p n → IsScaled by x r
-up_ok by x p r w n e l s h f =
-    times_twos_up by.twos n (times_root2 x (factor by)) r l s
-    (f ∙ ap (λ u. lifted_root2 u n) (h ∙ ap (λ z. times_root2 x (times_root2 (unit_power z) (power prime by.primes))) e))
+pub up_ok : (by : Scale) (x p r : Root2) (n : ℕ) → IsRead by n → pos 0 ≤ℤ by.twos → p ≡ times_root2 x (times_root2 (unit_power (short by.units)) (power prime by.primes)) → r ≡ lifted_root2 p n → IsScaled by x r
+up_ok by x p r n s l h f =
+    times_twos_up by.twos n (times_root2 x (factor by)) r l s.size
+    (f ∙ ap (λ u. lifted_root2 u n) (h ∙ ap (λ z. times_root2 x (times_root2 (unit_power z) (power prime by.primes))) s.units))
 
-pub up_none : (by : Scale) (x : Root2) (w m : ℤ) (n : ℕ) → w ≡ by.units → pos 0 ≤ℤ by.twos → n ≡ unsigned_abs by.twos → pos 0 ≤ℤ m → m ≤ℤ (times_root2 x (times_root2 (unit_power w) (power prime by.primes))).a → (y : Root2) → IsScaled by x y → m ≤ℤ y.a
-up_none by x w m n e l s positive large y k =
+pub up_none : (by : Scale) (x : Root2) (m : ℤ) (n : ℕ) → IsRead by n → pos 0 ≤ℤ by.twos → pos 0 ≤ℤ m → m ≤ℤ (times_root2 x (times_root2 (unit_power (short by.units)) (power prime by.primes))).a → (y : Root2) → IsScaled by x y → m ≤ℤ y.a
+up_none by x m n s l positive large y k =
     let P = λ (z : ℤ). m ≤ℤ (times_root2 x (times_root2 (unit_power z) (power prime by.primes))).a in
-    doubled_large (times_root2 x (factor by)) y m n positive (subst P e large) (from_times_twos_up by.twos n (times_root2 x (factor by)) y l s k)
+    doubled_large (times_root2 x (factor by)) y m n positive (subst P s.units large) (from_times_twos_up by.twos n (times_root2 x (factor by)) y l s.size k)
 
-pub up_large : (by : Scale) (x p : Root2) (w m : ℤ) (n : ℕ) → w ≡ by.units → pos 0 ≤ℤ by.twos → n ≡ unsigned_abs by.twos → p ≡ times_root2 x (times_root2 (unit_power w) (power prime by.primes)) → m ≤ℤ (lifted_root2 p n).a → (y : Root2) → IsScaled by x y → m ≤ℤ y.a
-up_large by x p w m n e l s h large y k =
-    product_large (times_root2 x (factor by)) p y m n (h ∙ ap (λ z. times_root2 x (times_root2 (unit_power z) (power prime by.primes))) e) large (from_times_twos_up by.twos n (times_root2 x (factor by)) y l s k)
+pub up_large : (by : Scale) (x p : Root2) (m : ℤ) (n : ℕ) → IsRead by n → pos 0 ≤ℤ by.twos → p ≡ times_root2 x (times_root2 (unit_power (short by.units)) (power prime by.primes)) → m ≤ℤ (lifted_root2 p n).a → (y : Root2) → IsScaled by x y → m ≤ℤ y.a
+up_large by x p m n s l h large y k =
+    product_large (times_root2 x (factor by)) p y m n (h ∙ ap (λ z. times_root2 x (times_root2 (unit_power z) (power prime by.primes))) s.units) large (from_times_twos_up by.twos n (times_root2 x (factor by)) y l s.size k)
 
 -- ---- a number scaled is one number at most
 times_twos_one : (z : ℤ) (x y w : Root2) → IsTimesTwos z x y → IsTimesTwos z x w → y ≡ w

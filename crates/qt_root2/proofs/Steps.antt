@@ -5,10 +5,17 @@ use Rattle.std.proofs.lemmas.Int.{ints}
 use Rattle.qt_root2.specs.Root2.{Root2, IsGood, times_root2}
 use Rattle.qt_root2.specs.Scaling.{unit, prime}
 use Rattle.qt_root2.proofs.Good.{narrow, good_times, good_half}
+use Rattle.qt_root2.proofs.Ring.{same_root2}
 use Rattle.qt_root2.proofs.Words.{word, word-fits}
 
 abbrev pub pair : ℤ → ℤ → Root2
 pair a b = record { a = a; b = b }
+
+-- ---- times a good factor
+
+-- what is the product with a good factor, part by part, is good and is that product
+product_by : (p : Root2) (a b whole root : ℤ) → IsGood a b → IsGood p.a p.b → whole ≡ (times_root2 (pair a b) p).a → root ≡ (times_root2 (pair a b) p).b → IsGood whole root × (pair whole root ≡ times_root2 (pair a b) p)
+product_by p a b whole root good factor e f = (rw (e, f) (good_times a b p.a p.b good factor), same_root2 (pair whole root) (times_root2 (pair a b) p) e f)
 
 -- ---- times ε²
 
@@ -62,17 +69,14 @@ unit_root_sum a b = omega (arith, ints)
 unit_whole_sum : (a b : ℤ) → a +ℤ b +ℤ (a +ℤ b +ℤ (a +ℤ b +ℤ b)) ≡ (times_root2 (pair a b) unit).a
 unit_whole_sum a b = omega (arith, ints)
 
-pub unit_root_is : (a b : ℤ) → UnitFits a b → unit_root a b ≡ (times_root2 (pair a b) unit).b
+unit_root_is : (a b : ℤ) → UnitFits a b → unit_root a b ≡ (times_root2 (pair a b) unit).b
 unit_root_is a b u = rw (word-fits a u.left, word-fits b u.right, word-fits (a +ℤ b) u.first, word-fits (a +ℤ b +ℤ b) u.second, word-fits (a +ℤ b +ℤ (a +ℤ b +ℤ b)) u.root) (unit_root_sum a b)
 
-pub unit_whole_is : (a b : ℤ) → UnitFits a b → unit_whole a b ≡ (times_root2 (pair a b) unit).a
+unit_whole_is : (a b : ℤ) → UnitFits a b → unit_whole a b ≡ (times_root2 (pair a b) unit).a
 unit_whole_is a b u = rw (word-fits a u.left, word-fits b u.right, word-fits (a +ℤ b) u.first, word-fits (a +ℤ b +ℤ b) u.second, word-fits (a +ℤ b +ℤ (a +ℤ b +ℤ b)) u.root, word-fits (a +ℤ b +ℤ (a +ℤ b +ℤ (a +ℤ b +ℤ b))) u.whole) (unit_whole_sum a b)
 
-unit_good : IsGood unit.a unit.b
-unit_good = (omega (arith, ints), omega (arith, ints))
-
-pub times_unit_good : (a b : ℤ) → IsGood a b → (let p = times_root2 (pair a b) unit in IsGood p.a p.b)
-times_unit_good a b h = good_times a b unit.a unit.b h unit_good
+pub unit_step : (a b : ℤ) → IsGood a b → UnitFits a b → IsGood (unit_whole a b) (unit_root a b) × (pair (unit_whole a b) (unit_root a b) ≡ times_root2 (pair a b) unit)
+unit_step a b good u = product_by unit a b (unit_whole a b) (unit_root a b) good (omega (arith, ints), omega (arith, ints)) (unit_whole_is a b u) (unit_root_is a b u)
 
 -- ---- times 2 − √2
 
@@ -97,11 +101,20 @@ prime_fits a b f g good h =
 abbrev difference : ℤ → ℤ → ℤ
 difference a b = word (word a -ℤ word b)
 
+abbrev pub prime_whole : ℤ → ℤ → ℤ
+prime_whole a b = word (difference a b +ℤ difference a b)
+
+abbrev pub prime_root : ℤ → ℤ → ℤ
+prime_root a b = word (word b -ℤ difference a b)
+
+difference_is : (a b : ℤ) → FitsSigned w128 a → FitsSigned w128 b → FitsSigned w128 (a -ℤ b) → difference a b ≡ a -ℤ b
+difference_is a b f g h = rw (word-fits a f, word-fits b g, word-fits (a -ℤ b) h)
+
 pub prime_whole-fits : (a b : ℤ) → PrimeFits a b → FitsSigned w128 (difference a b +ℤ difference a b)
-prime_whole-fits a b u = rw (word-fits a u.left, word-fits b u.right, word-fits (a -ℤ b) u.difference) u.whole
+prime_whole-fits a b u = rw (difference_is a b u.left u.right u.difference) u.whole
 
 pub prime_root-fits : (a b : ℤ) → PrimeFits a b → FitsSigned w128 (word b -ℤ difference a b)
-prime_root-fits a b u = rw (word-fits a u.left, word-fits b u.right, word-fits (a -ℤ b) u.difference) u.root
+prime_root-fits a b u = rw (difference_is a b u.left u.right u.difference, word-fits b u.right) u.root
 
 prime_whole_sum : (a b : ℤ) → a -ℤ b +ℤ (a -ℤ b) ≡ (times_root2 (pair a b) prime).a
 prime_whole_sum a b = omega (arith, ints)
@@ -109,17 +122,17 @@ prime_whole_sum a b = omega (arith, ints)
 prime_root_sum : (a b : ℤ) → b -ℤ (a -ℤ b) ≡ (times_root2 (pair a b) prime).b
 prime_root_sum a b = omega (arith, ints)
 
-pub prime_whole_is : (a b : ℤ) → PrimeFits a b → word (difference a b +ℤ difference a b) ≡ (times_root2 (pair a b) prime).a
-prime_whole_is a b u = rw (word-fits a u.left, word-fits b u.right, word-fits (a -ℤ b) u.difference, word-fits (a -ℤ b +ℤ (a -ℤ b)) u.whole) (prime_whole_sum a b)
+prime_whole_is : (a b : ℤ) → PrimeFits a b → prime_whole a b ≡ (times_root2 (pair a b) prime).a
+prime_whole_is a b u = rw (difference_is a b u.left u.right u.difference, word-fits (a -ℤ b +ℤ (a -ℤ b)) u.whole) (prime_whole_sum a b)
 
-pub prime_root_is : (a b : ℤ) → PrimeFits a b → word (word b -ℤ difference a b) ≡ (times_root2 (pair a b) prime).b
-prime_root_is a b u = rw (word-fits a u.left, word-fits b u.right, word-fits (a -ℤ b) u.difference, word-fits (b -ℤ (a -ℤ b)) u.root) (prime_root_sum a b)
+prime_root_is : (a b : ℤ) → PrimeFits a b → prime_root a b ≡ (times_root2 (pair a b) prime).b
+prime_root_is a b u = rw (difference_is a b u.left u.right u.difference, word-fits b u.right, word-fits (b -ℤ (a -ℤ b)) u.root) (prime_root_sum a b)
 
 prime_good : IsGood prime.a prime.b
 prime_good = (omega (arith, ints), omega (arith, ints))
 
-pub times_prime_good : (a b : ℤ) → IsGood a b → (let p = times_root2 (pair a b) prime in IsGood p.a p.b)
-times_prime_good a b h = good_times a b prime.a prime.b h prime_good
+pub prime_step : (a b : ℤ) → IsGood a b → PrimeFits a b → IsGood (prime_whole a b) (prime_root a b) × (pair (prime_whole a b) (prime_root a b) ≡ times_root2 (pair a b) prime)
+prime_step a b good u = product_by prime a b (prime_whole a b) (prime_root a b) good prime_good (prime_whole_is a b u) (prime_root_is a b u)
 
 -- ---- half of it times 2 − √2
 
@@ -148,21 +161,18 @@ half_whole-fits a b h u = rw (word-fits a u.left, word-fits b u.right) u.differe
 pub half_root-fits : (a b h : ℤ) → HalfFits a b h → FitsSigned w128 (word b -ℤ h)
 half_root-fits a b h u = rw (word-fits b u.right) u.root
 
-half_whole_sum : (a b : ℤ) → a -ℤ b +ℤ (a -ℤ b) ≡ (times_root2 (pair a b) prime).a
-half_whole_sum a b = omega (arith, ints)
-
 half_root_sum : (a b h : ℤ) → h +ℤ h ≡ a → b -ℤ h +ℤ (b -ℤ h) ≡ (times_root2 (pair a b) prime).b
 half_root_sum a b h e = omega (arith, ints)
 
 pub half_whole_is : (a b h : ℤ) → HalfFits a b h → difference a b +ℤ difference a b ≡ (times_root2 (pair a b) prime).a
-half_whole_is a b h u = rw (word-fits a u.left, word-fits b u.right, word-fits (a -ℤ b) u.difference) (half_whole_sum a b)
+half_whole_is a b h u = rw (difference_is a b u.left u.right u.difference) (prime_whole_sum a b)
 
 pub half_root_is : (a b h : ℤ) → HalfFits a b h → word (word b -ℤ h) +ℤ word (word b -ℤ h) ≡ (times_root2 (pair a b) prime).b
 half_root_is a b h u = rw (word-fits b u.right, word-fits (b -ℤ h) u.root) (half_root_sum a b h u.twice)
 
 pub half_good : (a b h : ℤ) → IsGood a b → HalfFits a b h → IsGood (difference a b) (word (word b -ℤ h))
 half_good a b h good u =
-    good_half (difference a b) (word (word b -ℤ h)) (rw (half_whole_is a b h u, half_root_is a b h u) (times_prime_good a b good))
+    good_half (difference a b) (word (word b -ℤ h)) (rw (half_whole_is a b h u, half_root_is a b h u) (good_times a b prime.a prime.b good prime_good))
 
 -- if a is odd, no half of the product is whole
 pub half_odd : (a b : ℤ) → ((h : ℤ) → h +ℤ h ≡ a → ⊥) → (y : Root2) → y.b +ℤ y.b ≡ (times_root2 (pair a b) prime).b → ⊥

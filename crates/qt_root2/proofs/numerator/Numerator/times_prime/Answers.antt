@@ -1,6 +1,5 @@
 use Rattle.std.proofs.Common.{rules}
-use Rattle.qt_root2.proofs.Ring.{same_root2}
-use Rattle.qt_root2.proofs.Steps.{prime_fits, prime_whole-fits, prime_root-fits, prime_whole_is, prime_root_is, times_prime_good}
+use Rattle.qt_root2.proofs.Steps.{prime_fits, prime_whole-fits, prime_root-fits, prime_step}
 use Rattle.qt_root2.proofs.numerator.Numerator.times_prime.Goals as goal
 
 pub overflow_add-result : goal.overflow_add-result
@@ -16,11 +15,9 @@ overflow_sub-result c =
 pub invariant_of-result : goal.invariant_of-result
 invariant_of-result c =
     let x = c.args.self in
-    let u = prime_fits x.a x.b (search rules) (search rules) x.good c.requires in
-    rw (prime_whole_is x.a x.b u, prime_root_is x.a x.b u) record { good = times_prime_good x.a x.b x.good }
+    record { good = (prime_step x.a x.b x.good (prime_fits x.a x.b (search rules) (search rules) x.good c.requires)).0 }
 
 pub returns : goal.returns
 returns c =
     let x = c.args.self in
-    let u = prime_fits x.a x.b (search rules) (search rules) x.good c.requires in
-    same_root2 _ _ (prime_whole_is x.a x.b u) (prime_root_is x.a x.b u)
+    (prime_step x.a x.b x.good (prime_fits x.a x.b (search rules) (search rules) x.good c.requires)).1

@@ -1,6 +1,5 @@
 use Rattle.std.proofs.Common.{rules}
-use Rattle.qt_root2.proofs.Ring.{same_root2}
-use Rattle.qt_root2.proofs.Steps.{unit_fits, unit_first-fits, unit_second-fits, unit_root-fits, unit_whole-fits, unit_root_is, unit_whole_is, times_unit_good}
+use Rattle.qt_root2.proofs.Steps.{unit_fits, unit_first-fits, unit_second-fits, unit_root-fits, unit_whole-fits, unit_step}
 use Rattle.qt_root2.proofs.numerator.Numerator.times_unit.Goals as goal
 
 pub overflow_add-first : goal.overflow_add-first
@@ -26,11 +25,9 @@ overflow_add-a c =
 pub invariant_of-result : goal.invariant_of-result
 invariant_of-result c =
     let x = c.args.self in
-    let u = unit_fits x.a x.b (search rules) (search rules) x.good c.requires in
-    rw (unit_whole_is x.a x.b u, unit_root_is x.a x.b u) record { good = times_unit_good x.a x.b x.good }
+    record { good = (unit_step x.a x.b x.good (unit_fits x.a x.b (search rules) (search rules) x.good c.requires)).0 }
 
 pub returns : goal.returns
 returns c =
     let x = c.args.self in
-    let u = unit_fits x.a x.b (search rules) (search rules) x.good c.requires in
-    same_root2 _ _ (unit_whole_is x.a x.b u) (unit_root_is x.a x.b u)
+    (unit_step x.a x.b x.good (unit_fits x.a x.b (search rules) (search rules) x.good c.requires)).1
