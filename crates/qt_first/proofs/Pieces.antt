@@ -7,7 +7,7 @@ use Rattle.std.proofs.lemmas.Fmt.{decimal_digit}
 use Rattle.std.proofs.lemmas.List.{append_cancel_left}
 use Rattle.qt_first.specs.declared.program.Statement.TheVariants.{ControlledX, Measure}
 use Rattle.qt_first.specs.Form.{head_text, statement_text}
-use Rattle.qt_first.specs.Pieces.{BeginsWith, single_gate_text}
+use Rattle.qt_first.specs.Pieces.{BeginsWith, indexes_text, single_gate_text}
 
 -- behind one opening, or one number below ten, a text has one rest
 pub past : (opening text a b : List ℕ) → text ≡ opening ++ a → text ≡ opening ++ b → a ≡ b
@@ -20,13 +20,16 @@ past_number m n text a b small_m small_n left right =
     let same_digit : 48 + m ≡ 48 + n = cc in
     (omega arith, cc)
 
+-- the same of an opening and a number behind it
+pub past_index : (opening : List ℕ) (m n : ℕ) (text behind a b : List ℕ) → m < 10 → n < 10 → text ≡ opening ++ behind → behind ≡ decimal m ++ a → text ≡ opening ++ (decimal n ++ b) → (m ≡ n) × (a ≡ b)
+past_index opening m n text behind a b small_m small_n opened left right =
+    past_number m n behind a b small_m small_n left (past opening text behind (decimal n ++ b) opened right)
+
 -- two texts of an opening, a number, what stands between, a number, a closing and a rest
 pub same_pair : (opening middle closing : List ℕ) (m n k l : ℕ) (a b : List ℕ) → m < 10 → n < 10 → k < 10 → l < 10 → opening ++ (decimal m ++ (middle ++ (decimal n ++ (closing ++ a)))) ≡ opening ++ (decimal k ++ (middle ++ (decimal l ++ (closing ++ b)))) → (m ≡ k) × (n ≡ l) × (a ≡ b)
 same_pair opening middle closing m n k l a b small_m small_n small_k small_l e =
-    let opened = past opening _ _ _ refl e in
-    let first = past_number m k _ _ _ small_m small_k refl opened in
-    let between = past middle _ _ _ refl first.1 in
-    let second = past_number n l _ _ _ small_n small_l refl between in
+    let first = past_index opening m k _ _ _ _ small_m small_k refl refl e in
+    let second = past_index middle n l _ _ _ _ small_n small_l refl refl first.1 in
     (first.0, second.0, past closing _ _ _ refl second.1)
 
 -- a text that was read step by step
@@ -62,11 +65,19 @@ regroup_head opening first_name first first_end second_name second second_end fe
 pub single_gate_text-pieces : (name : List ℕ) (qubit : ℕ) (rest : List ℕ) → single_gate_text name qubit ++ rest ≡ name ++ (codes " q[" ++ (decimal qubit ++ (codes "];\n" ++ rest)))
 single_gate_text-pieces name qubit rest = simp append_assoc
 
-pub controlled_x_text-pieces : (control target : ℕ) (rest : List ℕ) → statement_text (ControlledX control target) ++ rest ≡ codes "cx q[" ++ (decimal control ++ (codes "], q[" ++ (decimal target ++ (codes "];\n" ++ rest))))
-controlled_x_text-pieces control target rest = regroup_line (codes "cx ") (codes "q[") (decimal control) (codes "]") (codes ", ") (codes "q[") (decimal target) (codes ";") (10 ∷ []) rest
+pub indexes_text-pieces : (opening between : List ℕ) (first second : ℕ) (rest : List ℕ) → indexes_text opening between (first, second) ++ rest ≡ opening ++ (decimal first ++ (between ++ (decimal second ++ (codes "];\n" ++ rest))))
+indexes_text-pieces opening between first second rest = simp append_assoc
 
-pub measurement_text-pieces : (qubit bit : ℕ) (rest : List ℕ) → statement_text (Measure qubit bit) ++ rest ≡ codes "c[" ++ (decimal bit ++ (codes "] = measure q[" ++ (decimal qubit ++ (codes "];\n" ++ rest))))
-measurement_text-pieces qubit bit rest = regroup_line [] (codes "c[") (decimal bit) (codes "]") (codes " = measure ") (codes "q[") (decimal qubit) (codes ";") (10 ∷ []) rest
+-- two texts that begin with such lines of two indexes, of one opening
+pub same_indexes : (opening between : List ℕ) (m n k l : ℕ) (a b : List ℕ) → m < 10 → n < 10 → k < 10 → l < 10 → indexes_text opening between (m, n) ++ a ≡ indexes_text opening between (k, l) ++ b → (m ≡ k) × (n ≡ l) × (a ≡ b)
+same_indexes opening between m n k l a b small_m small_n small_k small_l e =
+    same_pair opening between (codes "];\n") m n k l a b small_m small_n small_k small_l (sym (indexes_text-pieces opening between m n a) ∙ (e ∙ indexes_text-pieces opening between k l b))
+
+pub controlled_x_text-indexes : (control target : ℕ) (rest : List ℕ) → statement_text (ControlledX control target) ++ rest ≡ indexes_text (codes "cx q[") (codes "], q[") (control, target) ++ rest
+controlled_x_text-indexes control target rest = regroup_line (codes "cx ") (codes "q[") (decimal control) (codes "]") (codes ", ") (codes "q[") (decimal target) (codes ";") (10 ∷ []) rest ∙ sym (indexes_text-pieces (codes "cx q[") (codes "], q[") control target rest)
+
+pub measurement_text-indexes : (qubit bit : ℕ) (rest : List ℕ) → statement_text (Measure qubit bit) ++ rest ≡ indexes_text (codes "c[") (codes "] = measure q[") (bit, qubit) ++ rest
+measurement_text-indexes qubit bit rest = regroup_line [] (codes "c[") (decimal bit) (codes "]") (codes " = measure ") (codes "q[") (decimal qubit) (codes ";") (10 ∷ []) rest ∙ sym (indexes_text-pieces (codes "c[") (codes "] = measure q[") bit qubit rest)
 
 pub head_text-pieces : (qubits bits : ℕ) (rest : List ℕ) → head_text qubits bits ++ rest ≡ codes "OPENQASM 3.0;\ninclude \"stdgates.inc\";\nqubit[" ++ (decimal qubits ++ (codes "] q;\nbit[" ++ (decimal bits ++ (codes "] c;\n" ++ rest))))
 head_text-pieces qubits bits rest = regroup_head (codes "OPENQASM 3.0;\ninclude \"stdgates.inc\";\n") (codes "qubit[") (decimal qubits) (codes "] q;") (codes "bit[") (decimal bits) (codes "] c;") (10 ∷ []) rest

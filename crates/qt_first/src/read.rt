@@ -5,6 +5,7 @@ ghost use Rattle.std.specs.Fmt.{decimal};
 ghost use Rattle.std.specs.List.{flat_map};
 ghost use Rattle.qt_first.specs.Form.{ArePlaced, IsPlaced, Reads, measurements, statement_text};
 ghost use Rattle.qt_first.specs.Pieces.{
+  AreBelow,
   AreControlAndTarget,
   AreQubitAndBit,
   BeginsWith,
@@ -12,6 +13,7 @@ ghost use Rattle.qt_first.specs.Pieces.{
   IsSized,
   IsSpelledBy,
   controlled_x_text,
+  indexes_text,
   is_measurement,
   measurement_text,
   registers_text,
@@ -151,11 +153,7 @@ fn controlled_x(text: &[u8], qubits: u32) -> Option<((u32, u32), &[u8])>
     requires { qubits ≤ 4 }
     ensures { BeginsWith (AreControlAndTarget qubits) controlled_x_text text.now result }
 {
-    let rest = after(text, b"cx q[")?;
-    let (control, rest) = number(rest, qubits)?;
-    let rest = after(rest, b"], q[")?;
-    let (target, rest) = number(rest, qubits)?;
-    let rest = after(rest, b"];\n")?;
+    let ((control, target), rest) = indexes(text, b"cx q[", qubits, b"], q[", qubits)?;
     (control != target).then_some(((control, target), rest))
 }
 
@@ -164,12 +162,29 @@ fn measurement(text: &[u8], registers: Registers) -> Option<((u32, u32), &[u8])>
     requires { IsSized registers }
     ensures { BeginsWith (AreQubitAndBit registers) measurement_text text.now result }
 {
-    let rest = after(text, b"c[")?;
-    let (bit, rest) = number(rest, registers.bits)?;
-    let rest = after(rest, b"] = measure q[")?;
-    let (qubit, rest) = number(rest, registers.qubits)?;
-    let rest = after(rest, b"];\n")?;
+    let (bits, qubits) = (registers.bits, registers.qubits);
+    let ((bit, qubit), rest) = indexes(text, b"c[", bits, b"] = measure q[", qubits)?;
     Some(((qubit, bit), rest))
+}
+
+/// The two indexes of a line, each below its bound: the first behind the opening, and the second behind what stands between.
+fn indexes<'a>(
+    text: &'a [u8],
+    opening: &[u8],
+    first_bound: u32,
+    between: &[u8],
+    second_bound: u32,
+) -> Option<((u32, u32), &'a [u8])>
+    requires first { first_bound ≤ 10 }
+    requires second { second_bound ≤ 10 }
+    ensures { BeginsWith (AreBelow first_bound second_bound) (indexes_text opening.now between.now) text.now result }
+{
+    let rest = after(text, opening)?;
+    let (first, rest) = number(rest, first_bound)?;
+    let rest = after(rest, between)?;
+    let (second, rest) = number(rest, second_bound)?;
+    let rest = after(rest, b"];\n")?;
+    Some(((first, second), rest))
 }
 
 /// The size of a register.

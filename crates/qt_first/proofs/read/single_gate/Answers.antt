@@ -1,6 +1,6 @@
 use Rattle.std.proofs.Common.{◌∙◌, arith}
 use Rattle.std.specs.Prelude.{codes}
-use Rattle.qt_first.proofs.Pieces.{past, past_number, single_gate_text-pieces}
+use Rattle.qt_first.proofs.Pieces.{past, past_index, single_gate_text-pieces}
 use Rattle.qt_first.proofs.read.single_gate.Goals as goal
 
 pub returns-in_err-rest-2 : goal.returns-in_err-rest-2
@@ -23,6 +23,5 @@ returns-in_err-rest-3 c =
     rw c.from_residual-in_err-rest-3.ensures
     (λ qubit rest small e.
     let named = past c.args.name.now c.args.text.now _ _ c.in_ok-rest.ensures (e ∙ single_gate_text-pieces c.args.name.now qubit rest) in
-    let opened = past (codes " q[") _ _ _ c.in_ok-rest-2.ensures named in
-    let numbered = past_number c.in_ok-qubit.qubit qubit _ _ _ (omega (arith, c.in_ok-qubit.ensures)) (omega arith) c.in_ok-qubit.ensures.1 opened in
+    let numbered = past_index (codes " q[") c.in_ok-qubit.qubit qubit _ _ _ _ (omega (arith, c.in_ok-qubit.ensures)) (omega arith) c.in_ok-rest-2.ensures c.in_ok-qubit.ensures.1 named in
     c.in_err-rest-3.ensures _ numbered.1)
