@@ -2,7 +2,6 @@
 
 use crate::names::HERE;
 use crate::shown::{tell_form, tell_operand};
-use crate::words::kind_in;
 use qt_check_operands::expression::{typed, value_at};
 use qt_const::modes::Mode;
 use qt_expr::parse_expr::parse_expr;
@@ -10,6 +9,7 @@ use qt_lex::lexer::lex;
 use qt_rows::answer::Answer;
 use qt_rows::row::Row;
 use qt_tree::expression::Expr;
+use qt_type_rows::types::type_in;
 use qt_typing::names::Names;
 use qt_value::types::ValueType;
 use sqlite_items::Boxed;
@@ -62,7 +62,7 @@ pub fn typed_row(alloc: Global, names: &Names, row: &mut Row<'_>, answer: &mut A
 
 /// `value TYPE WIDTH EXPRESSION`
 pub fn value_row(alloc: Global, names: &Names, row: &mut Row<'_>, answer: &mut Answer) {
-    let to = kind_in(row);
+    let to = type_in(row);
     if let Some(expr) = parsed(alloc, row.rest, answer) {
         tell_value(alloc, names, to, expr.get(), answer);
     }

@@ -18,7 +18,6 @@ mod expressions;
 mod names;
 mod shown;
 mod targets;
-mod words;
 
 use qt_const::consts::Consts;
 use qt_names::scopes::Scopes;

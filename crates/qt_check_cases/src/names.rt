@@ -1,6 +1,5 @@
 //! Rows that declare names.
 
-use crate::words::{kind_in, lengths_in};
 use qt_const::consts::Known;
 use qt_names::named::{Named, Places, What};
 use qt_phase::phase::Phase;
@@ -8,6 +7,7 @@ use qt_rows::answer::Answer;
 use qt_rows::row::Row;
 use qt_tree::lengths::Lengths;
 use qt_tree::place::Place;
+use qt_type_rows::types::type_in;
 use qt_typing::names::Names;
 use qt_value::constant::ConstValue;
 use qt_value::types::ValueType;
@@ -43,10 +43,22 @@ fn known_of(alloc: Global, lengths: &Lengths, answer: &mut Answer) -> Known {
     }
 }
 
+/// `LENGTH ..`
+fn lengths_in(alloc: Global, row: &mut Row<'_>, answer: &mut Answer) -> Lengths {
+    let mut items = Vec::new(alloc);
+    for word in row.rest.split_whitespace() {
+        match word.parse::<u32>() {
+            Ok(length) => answer.require(items.push(length)),
+            Err(_) => row.refused = true,
+        }
+    }
+    Lengths::from_vec(items)
+}
+
 /// `variable NAME TYPE WIDTH SLOT LENGTH ..`
 pub fn variable(alloc: Global, names: &mut Names, row: &mut Row<'_>, answer: &mut Answer) {
     let name = row.word();
-    let kind = kind_in(row);
+    let kind = type_in(row);
     let number = row.u32();
     let lengths = lengths_in(alloc, row, answer);
     let known = known_of(alloc, &lengths, answer);
@@ -80,7 +92,7 @@ fn keep(
 /// `constant NAME TYPE WIDTH BITS`
 pub fn constant(alloc: Global, names: &mut Names, row: &mut Row<'_>, answer: &mut Answer) {
     let name = row.word();
-    let kind = kind_in(row);
+    let kind = type_in(row);
     match Value::new(kind, row.u64()) {
         Some(value) => keep(alloc, names, name, kind, ConstValue::Value(value), answer),
         None => row.refuse(),

@@ -1,10 +1,11 @@
 //! Rows of entries of names, which stay from row to row.
 
-use crate::words::{phase_in, type_in};
+use crate::phases::phase_in;
 use qt_const::consts::{Consts, Known};
 use qt_rows::answer::Answer;
 use qt_rows::row::Row;
 use qt_tree::lengths::Lengths;
+use qt_type_rows::types::type_in;
 use qt_value::constant::ConstValue;
 use qt_value::value::Value;
 use std::alloc::Global;

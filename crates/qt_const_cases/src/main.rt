@@ -15,8 +15,8 @@
 #![tactic(auto)]
 
 mod entries;
+mod phases;
 mod values;
-mod words;
 
 use qt_const::consts::Consts;
 use qt_rows::answer::Answer;

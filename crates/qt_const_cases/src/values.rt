@@ -4,7 +4,7 @@ ghost use Rattle.std.specs.Prelude.{◌≡◌, IfSome, IsTrue};
 ghost use Rattle.qt_value.specs.Types.{has_size};
 ghost use Rattle.qt_value.specs.declared.types.ValueType.TheVariants as kind;
 
-use crate::words::phase_in;
+use crate::phases::phase_in;
 use qt_const::angles::angle_of;
 use qt_const::consts::Consts;
 use qt_const::value::{const_value, exponent_value, scalar_type};

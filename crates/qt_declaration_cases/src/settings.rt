@@ -5,8 +5,8 @@ use qt_rows::row::Row;
 use qt_settings::fit::inputs_fit;
 use qt_tree::label::{Label, Setting};
 use qt_tree::lengths::Lengths;
+use qt_type_rows::types::type_in;
 use qt_typed::program::TypedOutput;
-use qt_value::types::ValueType;
 use std::alloc::Global;
 
 /// The inputs, and what is given for them.
@@ -25,25 +25,9 @@ impl Given {
     }
 }
 
-/// `TYPE WIDTH`
-fn kind_in(row: &mut Row<'_>) -> ValueType {
-    let (name, width) = (row.word(), row.u8());
-    match name {
-        "bool" => ValueType::Bool,
-        "bit" => ValueType::Bit(width),
-        "int" => ValueType::Int(width),
-        "uint" => ValueType::Uint(width),
-        "angle" => ValueType::Angle(width),
-        _ => {
-            row.refuse();
-            ValueType::Bool
-        }
-    }
-}
-
 /// `input TYPE WIDTH NAME SLOT`
 pub fn input(alloc: Global, given: &mut Given, row: &mut Row<'_>, answer: &mut Answer) {
-    let kind = kind_in(row);
+    let kind = type_in(row);
     let (name, slot) = (row.word(), row.u32());
     if let Some(name) = answer.given(Label::new(alloc, name)) {
         let lengths = Lengths::from_vec(Vec::new(alloc));
