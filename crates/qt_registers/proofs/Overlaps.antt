@@ -79,6 +79,32 @@ module _ (xs : List FixedQubit) (runs : List Run) where
         other (inl here) = absurd (not here)
         other (inr there) = there
 
+-- the same of one qubit
+module _ (qubit : FixedQubit) (runs : List Run) where
+  pub held_by_none : length runs < 1 → Holds (qubits_of runs) qubit → ⊥
+  held_by_none none h = holds_nil qubit (subst (λ l. Holds l qubit) (no_qubits runs none) h)
+
+  module _ (run : Run) (some : 1 ≤ length runs) (is : run ≡ get_or runs 0 run) where
+    parts : qubits_of runs ≡ run_qubits run ++ qubits_of (behind runs)
+    unfolding qubits_of
+    parts = ap qubits_of (first_and_behind runs run some is)
+
+    pub held_by_first : Holds (run_qubits run) qubit → Holds (qubits_of runs) qubit
+    held_by_first h = subst (λ l. Holds l qubit) (sym parts) (held_left qubit (run_qubits run) (qubits_of (behind runs)) h)
+
+    pub held_behind : Holds (qubits_of (behind runs)) qubit → Holds (qubits_of runs) qubit
+    held_behind h = subst (λ l. Holds l qubit) (sym parts) (held_right qubit (run_qubits run) (qubits_of (behind runs)) h)
+
+    pub held_later : (Holds (run_qubits run) qubit → ⊥) → Holds (qubits_of runs) qubit → Holds (qubits_of (behind runs)) qubit
+    held_later not h = other (held_in_part qubit (run_qubits run) (qubits_of (behind runs)) h'.0 h'.1)
+      where
+        h' : Holds (run_qubits run ++ qubits_of (behind runs)) qubit
+        h' = subst (λ l. Holds l qubit) parts h
+
+        other : Holds (run_qubits run) qubit ⊎ Holds (qubits_of (behind runs)) qubit → Holds (qubits_of (behind runs)) qubit
+        other (inl here) = absurd (not here)
+        other (inr there) = there
+
 -- the same from the other side
 module _ (xs : List FixedQubit) (runs : List Run) where
   pub none_overlaps : length runs < 1 → Overlap (qubits_of runs) xs → ⊥
@@ -112,6 +138,20 @@ run_holds run qubit h =
 
 number_held : (run : Run) (number : ℕ) → HasNumber run number → Holds (run_qubits run) (qubit_of run.origin number)
 number_held run number h = (h.0, slice_get-run_qubits run h.0 h.1 ∙ ap (λ n. Some (qubit_of run.origin n)) h.2)
+
+-- a qubit by where it is counted and its number there
+module _ (run : Run) (o : Origin) (number : ℕ) (qubit : FixedQubit) (is : qubit_of o number ≡ qubit) where
+  counted_there : (h : Holds (run_qubits run) qubit) → (run.origin ≡ o) × (run.first + (run_holds run qubit h).0 * run.step ≡ number)
+  counted_there h = qubit_of-same run.origin o _ number ((run_holds run qubit h).2 ∙ sym is)
+
+  pub origin_of_held : Holds (run_qubits run) qubit → run.origin ≡ o
+  origin_of_held h = (counted_there h).0
+
+  pub number_of_held : Holds (run_qubits run) qubit → HasNumber run number
+  number_of_held h = ((run_holds run qubit h).0, (run_holds run qubit h).1, (counted_there h).1)
+
+  pub held_by_number : run.origin ≡ o → HasNumber run number → Holds (run_qubits run) qubit
+  held_by_number same h = subst (λ q. Holds (run_qubits run) q) (ap (λ p. qubit_of p number) same ∙ is) (number_held run number h)
 
 module _ (left right : Run) where
   pub same_origin : Overlap (run_qubits left) (run_qubits right) → left.origin ≡ right.origin

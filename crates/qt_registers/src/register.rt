@@ -1,5 +1,5 @@
 ghost use Rattle.std.specs.Prelude.{◌≡◌, ◌+◌, ◌-◌, ◌*◌, ◌^◌, ◌<◌, ◌≤◌, ◌↔◌, [], ◌++◌, length, slice_get, IsTrue, IfOk, OnOk, OnErr};
-ghost use Rattle.qt_registers.specs.Registers.{parameter_qubits, program_qubits, stepped, Overlap};
+ghost use Rattle.qt_registers.specs.Registers.{parameter_qubits, program_qubits, stepped, Holds, Overlap};
 ghost use Rattle.qt_registers.specs.Runs.{qubits_of, run_qubits};
 
 use crate::fixed::FixedQubit;
@@ -114,6 +114,19 @@ fn runs_overlap(mut runs: &[Run], others: &[Run]) -> bool
     false
 }
 
+/// Whether a qubit stands in some of several runs.
+fn runs_hold(mut runs: &[Run], qubit: FixedQubit) -> bool
+    ensures { IsTrue result ↔ Holds (qubits_of runs.entry.now) qubit }
+{
+    while let [run, rest @ ..] = runs {
+        if run.holds(qubit) {
+            return true;
+        }
+        runs = rest;
+    }
+    false
+}
+
 impl Register {
     /// A register without qubits.
     #[tactic(auto, unfolding(crate::specs::Runs::qubits_of))]
@@ -190,6 +203,13 @@ impl Register {
         ensures { result ≡ slice_get self.now place }
     {
         qubit_at(self.runs.as_slice(), place)
+    }
+
+    /// Whether the qubit stands in the register. Each of its runs is asked once, however long it is.
+    pub fn holds(&self, qubit: FixedQubit) -> bool
+        ensures { IsTrue result ↔ Holds self.now qubit }
+    {
+        runs_hold(self.runs.as_slice(), qubit)
     }
 
     /// Whether some qubit stands in both registers.

@@ -33,6 +33,18 @@ pub struct Run {
     ghost within: { first + (count - 1) * step < bound_of origin },
 }
 
+/// Where a qubit is counted, and its number there.
+fn counted(qubit: FixedQubit) -> (Origin, u64)
+    ensures { qubit_of result.0 result.1 ≡ qubit }
+{
+    match qubit {
+        FixedQubit::Number { qubit } => (Origin::Program, qubit),
+        FixedQubit::OfParameter { parameter, place } => {
+            (Origin::Parameter { parameter }, u64::from(place))
+        }
+    }
+}
+
 /// The qubit with that number.
 fn qubit_of(origin: Origin, number: u64) -> FixedQubit
     requires { number < bound_of origin }
@@ -48,7 +60,7 @@ fn qubit_of(origin: Origin, number: u64) -> FixedQubit
 }
 
 impl Run {
-    ghost use Rattle.qt_registers.specs.Registers.{stepped, Overlap};
+    ghost use Rattle.qt_registers.specs.Registers.{stepped, Holds, Overlap};
     ghost use Rattle.qt_registers.specs.Runs.{run_qubits, HasNumber, Meet};
 
     /// The number of the qubit at a place.
@@ -108,6 +120,17 @@ impl Run {
         }
         let way = number - self.first;
         way % self.step == 0 && way / self.step < self.count
+    }
+
+    /// Whether a qubit stands in the run: its number there is reckoned, and no qubit is walked over.
+    pub fn holds(self, qubit: FixedQubit) -> bool
+        ensures { IsTrue result ↔ Holds (run_qubits self) qubit }
+    {
+        let (origin, number) = counted(qubit);
+        if !self.origin.is(origin) {
+            return false;
+        }
+        self.has_number(number)
     }
 
     /// How many numbers of the run, if it went on, are below a bound.
