@@ -44,6 +44,10 @@ pub parameter_none : (parameter : ℕ) → parameter_qubits parameter 0 ≡ []
 unfolding parameter_qubits progression
 parameter_none parameter = refl
 
+pub one_qubit : (run : Run) → run.count ≡ 1 → run_qubits run ≡ qubit_of run.origin run.first ∷ []
+unfolding run_qubits progression
+one_qubit run one = ap (λ n. map (qubit_of run.origin) (progression run.first run.step n)) one
+
 -- ---- several runs
 
 pub qubits_of-append : (runs more : List Run) → qubits_of (runs ++ more) ≡ qubits_of runs ++ qubits_of more
@@ -129,3 +133,7 @@ pub ruleset one = (qubits_of-one, length-run_qubits)
 pub ruleset appended = (qubits_of-append, length-append)
 
 pub ruleset pushed = (qubits_of-push, stepped_none, append-nil)
+
+pub ruleset of_one_qubit = (one_qubit)
+
+pub ruleset pushed_one = (qubits_of-push, length-append)

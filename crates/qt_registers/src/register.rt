@@ -1,4 +1,4 @@
-ghost use Rattle.std.specs.Prelude.{◌≡◌, ◌+◌, ◌-◌, ◌*◌, ◌^◌, ◌<◌, ◌≤◌, ◌↔◌, [], ◌++◌, length, slice_get, IsTrue, IfOk, OnOk, OnErr};
+ghost use Rattle.std.specs.Prelude.{◌≡◌, ◌+◌, ◌-◌, ◌*◌, ◌^◌, ◌<◌, ◌≤◌, ◌↔◌, [], ◌∷◌, ◌++◌, length, slice_get, IsTrue, IfOk, OnOk, OnErr};
 ghost use Rattle.qt_registers.specs.Registers.{parameter_qubits, program_qubits, stepped, Holds, Overlap};
 ghost use Rattle.qt_registers.specs.Runs.{qubits_of, run_qubits};
 
@@ -191,6 +191,14 @@ impl Register {
         )
     }
 
+    /// A register of one qubit. A qubit whose number is 2^63 or more is refused as if memory wanted.
+    pub fn of_qubit(alloc: Global, qubit: FixedQubit) -> Result<Register, OutOfMemory>
+        ensures { IfOk result (λ register. register ≡ qubit ∷ []) }
+    {
+        let run = Run::single(qubit).ok_or(OutOfMemory)?;
+        Register::of_run(alloc, run)
+    }
+
     /// The number of its qubits.
     pub fn size(&self) -> u64
         ensures { result ≡ length self.now }
@@ -238,6 +246,20 @@ impl Register {
     {
         let size = self.size.checked_add(other.size).ok_or(OutOfMemory)?;
         self.runs.extend_from_slice(other.runs.as_slice())?;
+        self.size = size;
+        Ok(())
+    }
+
+    /// Adds a qubit behind its own. After a refusal it is as it was. A qubit whose number is 2^63 or more, and the 2^64th one, are refused as
+    /// if memory wanted.
+    #[tactic(auto, using(crate::proofs::Runs::pushed_one))]
+    pub fn push(&mut self, qubit: FixedQubit) -> Result<(), OutOfMemory>
+        ensures ok { OnOk result (self.new ≡ self.old ++ qubit ∷ []) }
+        ensures err { OnErr result (self.new ≡ self.old) }
+    {
+        let run = Run::single(qubit).ok_or(OutOfMemory)?;
+        let size = self.size.checked_add(1).ok_or(OutOfMemory)?;
+        self.runs.push(run)?;
         self.size = size;
         Ok(())
     }

@@ -1,4 +1,4 @@
-ghost use Rattle.std.specs.Prelude.{◌≡◌, ◌+◌, ◌-◌, ◌*◌, ◌<◌, ◌≤◌, ◌↔◌, IsTrue, slice_get, Some};
+ghost use Rattle.std.specs.Prelude.{◌≡◌, ◌+◌, ◌-◌, ◌*◌, ◌<◌, ◌≤◌, ◌↔◌, ◌^◌, ◌∷◌, [], IsTrue, IfSome, slice_get, Some};
 ghost use Rattle.qt_registers.specs.Origins.{bound_of, qubit_of};
 
 use crate::fixed::FixedQubit;
@@ -35,7 +35,8 @@ pub struct Run {
 
 /// Where a qubit is counted, and its number there.
 fn counted(qubit: FixedQubit) -> (Origin, u64)
-    ensures { qubit_of result.0 result.1 ≡ qubit }
+    ensures value { qubit_of result.0 result.1 ≡ qubit }
+    ensures within { result.1 < 2 ^ 63 → result.1 < bound_of result.0 }
 {
     match qubit {
         FixedQubit::Number { qubit } => (Origin::Program, qubit),
@@ -120,6 +121,23 @@ impl Run {
         }
         let way = number - self.first;
         way % self.step == 0 && way / self.step < self.count
+    }
+
+    /// The run of one qubit. None of one whose number is 2^63 or more.
+    #[tactic(auto, using(crate::proofs::Runs::of_one_qubit))]
+    pub fn single(qubit: FixedQubit) -> Option<Run>
+        ensures { IfSome result (λ run. run_qubits run ≡ qubit ∷ []) }
+    {
+        let (origin, first) = counted(qubit);
+        if first >= 1 << 63 {
+            return None;
+        }
+        Some(Run {
+            origin,
+            first,
+            step: 1,
+            count: 1,
+        })
     }
 
     /// Whether a qubit stands in the run: its number there is reckoned, and no qubit is walked over.

@@ -12,7 +12,7 @@ returns-then-not-is c =
     let origin = c.counted-origin.result.0 in
     let number = c.counted-origin.result.1 in
     let not = denied c.is.result (run.origin ≡ origin) c.is.ensures c.if-not-is.true in
-    no_where (Holds (run_qubits run) qubit) (λ h. not (origin_of_held run origin number qubit c.counted-origin.ensures h))
+    no_where (Holds (run_qubits run) qubit) (λ h. not (origin_of_held run origin number qubit c.counted-origin.ensures.value h))
 
 pub returns : goal.returns
 returns c =
@@ -20,7 +20,7 @@ returns c =
     let qubit = c.args.qubit in
     let origin = c.counted-origin.result.0 in
     let number = c.counted-origin.result.1 in
-    let counted = c.counted-origin.ensures in (
+    let counted = c.counted-origin.ensures.value in (
       λ t. held_by_number run origin number qubit counted (c.is.ensures.0 c.if-not-is.false) (c.has_number.ensures.0 t),
       λ h. c.has_number.ensures.1 (number_of_held run origin number qubit counted h),
     )
