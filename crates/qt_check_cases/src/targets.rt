@@ -2,7 +2,7 @@
 
 use crate::expressions::parsed;
 use crate::names::{HERE, declare};
-use qt_check_targets::qubits::{qubit_in, qubits_in_range, qubits_named};
+use qt_check_qubits::qubits::{qubit_in, qubits_in_range, qubits_named};
 use qt_check_targets::targets::{measured_target, target_at};
 use qt_const::consts::Known;
 use qt_names::named::{Named, Places, What};

@@ -1,2 +1,1 @@
-pub mod QubitViews
 pub mod TargetViews

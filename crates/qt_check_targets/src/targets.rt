@@ -5,11 +5,11 @@ ghost use Rattle.qt_typing.specs.Checked.{Gives};
 ghost use Rattle.qt_typing.specs.Targets as spec;
 ghost use Rattle.qt_check_operands.specs.Parts.{index_parts};
 
-use crate::qubits::outcomes_fit;
 use qt_check_operands::expression::{reached, steps_from};
 use qt_check_operands::left::IndexesLeft;
 use qt_check_operands::names::unfit;
 use qt_check_operands::variables::{kind_of, storage_of};
+use qt_check_qubits::qubits::outcomes_fit;
 use qt_const::modes::Mode;
 use qt_names::named::{Named, What};
 use qt_outside::faults::OutOfMemory;

@@ -250,8 +250,8 @@ impl Register {
         Ok(())
     }
 
-    /// Adds a qubit behind its own. After a refusal it is as it was. A qubit whose number is 2^63 or more, and the 2^64th one, are refused as
-    /// if memory wanted.
+    /// Adds a qubit behind its own. After a refusal it is as it was. A qubit whose number is 2^63 or more, and the 2^64th one, are refused
+    /// as if memory wanted.
     #[tactic(auto, using(crate::proofs::Runs::pushed_one))]
     pub fn push(&mut self, qubit: FixedQubit) -> Result<(), OutOfMemory>
         ensures ok { OnOk result (self.new ≡ self.old ++ qubit ∷ []) }

@@ -7,7 +7,8 @@ use Rattle.qt_registers.proofs.register.runs_hold.Goals as goal
 pub returns-then-holds : goal.returns-then-holds
 returns-then-holds c =
     let here = c.holds.ensures.0 c.if-holds.true in
-    yes_where _ (c.loop-runs.invariant.0 (held_by_first c.args.qubit c.loop-runs.runs.now c.run-item.result c.in-len1-up.len_at_least c.run-item.is here))
+    let some = c.in-len1-up.len_at_least in
+    yes_where _ (c.loop-runs.invariant.0 (held_by_first c.args.qubit c.loop-runs.runs.now c.run-item.result some c.run-item.is here))
 
 pub loop-runs-preserved : goal.loop-runs-preserved
 loop-runs-preserved c =

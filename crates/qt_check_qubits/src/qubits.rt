@@ -28,14 +28,14 @@ use sqlite_items::Boxed;
 use std::alloc::Global;
 
 /// One qubit.
-fn single(alloc: Global, qubit: TypedQubit) -> Result<Boxed<TypedQubits>, OutOfMemory>
+pub(crate) fn single(alloc: Global, qubit: TypedQubit) -> Result<Boxed<TypedQubits>, OutOfMemory>
     ensures { IfOk result (λ of. of ≡ qubits_form.Single qubit) }
 {
     Ok(Boxed::new(alloc, TypedQubits::Single { qubit })?)
 }
 
 /// The qubits of a register, in order.
-fn all_of(alloc: Global, qubits: Register) -> Result<Boxed<TypedQubits>, OutOfMemory>
+pub(crate) fn all_of(alloc: Global, qubits: Register) -> Result<Boxed<TypedQubits>, OutOfMemory>
     ensures { IfOk result (λ of. of ≡ qubits_form.Register qubits) }
 {
     Ok(Boxed::new(alloc, TypedQubits::Register { qubits })?)
@@ -110,7 +110,7 @@ pub fn qubits_named(
 // ---- indexes
 
 /// The register that is indexed: E10 of a single qubit.
-fn register_of(place: Place, of: Boxed<TypedQubits>) -> Result<Register, TextRefusal>
+pub(crate) fn register_of(place: Place, of: Boxed<TypedQubits>) -> Result<Register, TextRefusal>
     ensures { Gives (spec.register_of place of) result }
 {
     match of.into_inner() {
@@ -121,7 +121,7 @@ fn register_of(place: Place, of: Boxed<TypedQubits>) -> Result<Register, TextRef
 
 /// The qubit at a constant index.
 #[tactic(auto, unfolding(qt_typing::specs::Qubits::fixed_in))]
-fn fixed_in(
+pub(crate) fn fixed_in(
     alloc: Global,
     names: &Names,
     place: Place,

@@ -1,0 +1,2 @@
+pub mod QubitViews
+pub mod Sharing
