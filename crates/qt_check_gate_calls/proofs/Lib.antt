@@ -1,0 +1,2 @@
+pub mod StandardGates
+pub mod Units
