@@ -1,2 +1,4 @@
+pub mod Meeting
+pub mod Singles
 pub mod StandardGates
 pub mod Units

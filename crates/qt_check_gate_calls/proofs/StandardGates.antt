@@ -32,7 +32,8 @@ from_rows : (n : ℕ) (gates : List table.StandardGate) (name : Name) → standa
     ≡ option_map as_gate (gate_in n (map row_of gates) name)
 from_rows n [] name = refl
 from_rows n (g ∷ gates) name =
-    ap (chosen (pointwise nat_eq g.name name) n g) (from_rows (suc n) gates name ∙ ap (λ m. option_map as_gate (gate_in m (map row_of gates) name)) (succ_is n))
+    ap (chosen (pointwise nat_eq g.name name) n g)
+    (from_rows (suc n) gates name ∙ ap (λ m. option_map as_gate (gate_in m (map row_of gates) name)) (succ_is n))
     ∙ ap (λ test. chosen test n g (option_map as_gate (gate_in (n + 1) (map row_of gates) name))) (nat_list_eq_equiv.symm g.name name)
     ∙ of_chosen (bytes_eq name g.name) n g (gate_in (n + 1) (map row_of gates) name)
   where

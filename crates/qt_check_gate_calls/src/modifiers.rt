@@ -1,6 +1,6 @@
 //! The modifiers of a gate call.
 
-ghost use Rattle.std.specs.Prelude.{◌≡◌, [], ◌∷◌, replicate, IfOk};
+ghost use Rattle.std.specs.Prelude.{◌≡◌, ◌<◌, ◌^◌, [], ◌∷◌, replicate, IfOk};
 ghost use Rattle.qt_typing.specs.Checked.{Gives};
 ghost use Rattle.qt_typing.specs.Gates as spec;
 
@@ -110,8 +110,8 @@ pub fn modifiers_from(
     Ok(modifiers)
 }
 
-/// Whether a modifier puts a control in front.
-fn is_control(modifier: GateModifier) -> u64
+/// How many controls one modifier puts in front.
+fn control_count(modifier: GateModifier) -> u64
     ensures { result ≡ spec.controls (modifier ∷ []) }
 {
     match modifier {
@@ -122,11 +122,12 @@ fn is_control(modifier: GateModifier) -> u64
 
 /// How many controls the modifiers put in front.
 pub fn controls(mut modifiers: &[GateModifier]) -> u64
-    ensures { result ≡ spec.controls modifiers.entry.now }
+    ensures value { result ≡ spec.controls modifiers.entry.now }
+    ensures few { result < 2 ^ 63 }
 {
     let mut count = 0;
     while let [modifier, rest @ ..] = modifiers {
-        count += is_control(*modifier);
+        count += control_count(*modifier);
         modifiers = rest;
     }
     count
