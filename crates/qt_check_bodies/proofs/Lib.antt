@@ -1,0 +1,3 @@
+pub mod Each
+pub mod FormViews
+pub mod Slots

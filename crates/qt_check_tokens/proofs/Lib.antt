@@ -1,0 +1,3 @@
+pub mod ExpressionViews
+pub mod FormViews
+pub mod ListViews
