@@ -10,7 +10,7 @@ use Rattle.qt_first.specs.declared.program.Statement.{Statement}
 use Rattle.qt_first.specs.declared.program.Statement.TheVariants.{Hadamard, T, X, ControlledX, Measure}
 use Rattle.qt_first.specs.Form.{ArePlaced, IsPlaced, measurements, statement_text}
 use Rattle.qt_first.specs.Pieces.{is_measurement, single_gate_text}
-use Rattle.qt_first.proofs.Pieces.{past, past_index, same_indexes, single_gate_text-pieces, controlled_x_text-indexes, measurement_text-indexes}
+use Rattle.qt_first.proofs.Pieces.{past, past_number_text, same_pair, single_gate_text-pieces, controlled_x_text-pieces, measurement_text-pieces}
 
 -- a text that begins with no line of a kind, for each kind, begins with no statement
 pub no_statement : (qubits bits : ℕ) (text : List ℕ) → ((qubit : ℕ) (rest : List ℕ) → qubit < qubits → text ≢ single_gate_text (codes "h") qubit ++ rest) → ((qubit : ℕ) (rest : List ℕ) → qubit < qubits → text ≢ single_gate_text (codes "t") qubit ++ rest) → ((qubit : ℕ) (rest : List ℕ) → qubit < qubits → text ≢ single_gate_text (codes "x") qubit ++ rest) → ((control target : ℕ) (rest : List ℕ) → IsPlaced qubits bits (ControlledX control target) → text ≢ statement_text (ControlledX control target) ++ rest) → ((qubit bit : ℕ) (rest : List ℕ) → IsPlaced qubits bits (Measure qubit bit) → text ≢ statement_text (Measure qubit bit) ++ rest) → (statement : Statement) (rest : List ℕ) → IsPlaced qubits bits statement → text ≢ statement_text statement ++ rest
@@ -23,7 +23,7 @@ no_statement qubits bits text h t x cx m (Measure qubit bit) rest placed e = m q
 same_single_gate : (name : List ℕ) (m n : ℕ) (a b : List ℕ) → m < 10 → n < 10 → single_gate_text name m ++ a ≡ single_gate_text name n ++ b → (m ≡ n) × (a ≡ b)
 same_single_gate name m n a b small_m small_n e =
     let named = past name _ _ _ (single_gate_text-pieces name m a) (e ∙ single_gate_text-pieces name n b) in
-    let numbered = past_index (codes " q[") m n _ _ _ _ small_m small_n refl refl named in
+    let numbered = past_number_text (codes " q[") m n _ _ _ small_m small_n refl named in
     (numbered.0, past (codes "];\n") _ _ _ refl numbered.1)
 
 -- two texts that begin with a statement begin with the same one, and have the same rest
@@ -35,10 +35,10 @@ one_statement qubits bits (T m) (T n) a b few_qubits few_bits placed_s placed_r 
 one_statement qubits bits (X m) (X n) a b few_qubits few_bits placed_s placed_r e =
     let same = same_single_gate (codes "x") m n a b (omega arith) (omega arith) e in (ap X same.0, same.1)
 one_statement qubits bits (ControlledX c t) (ControlledX d u) a b few_qubits few_bits placed_s placed_r e =
-    let same = same_indexes (codes "cx q[") (codes "], q[") c t d u a b (omega arith) (omega arith) (omega arith) (omega arith) (sym (controlled_x_text-indexes c t a) ∙ (e ∙ controlled_x_text-indexes d u b)) in
+    let same = same_pair (codes "cx q[") (codes "], q[") (codes "];\n") c t d u a b (omega arith) (omega arith) (omega arith) (omega arith) (sym (controlled_x_text-pieces c t a) ∙ (e ∙ controlled_x_text-pieces d u b)) in
     (cc, same.2)
 one_statement qubits bits (Measure q k) (Measure p l) a b few_qubits few_bits placed_s placed_r e =
-    let same = same_indexes (codes "c[") (codes "] = measure q[") k q l p a b (omega arith) (omega arith) (omega arith) (omega arith) (sym (measurement_text-indexes q k a) ∙ (e ∙ measurement_text-indexes p l b)) in
+    let same = same_pair (codes "c[") (codes "] = measure q[") (codes "];\n") k q l p a b (omega arith) (omega arith) (omega arith) (omega arith) (sym (measurement_text-pieces q k a) ∙ (e ∙ measurement_text-pieces p l b)) in
     (cc, same.2)
 one_statement qubits bits s r a b few_qubits few_bits placed_s placed_r e =
     absurd (omega (arith, ap (λ text. get_or text 0 0) e, ap (λ text. get_or text 1 0) e))

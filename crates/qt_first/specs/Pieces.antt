@@ -1,7 +1,7 @@
 -- What the parts of the reader find, over the texts of specs/Form.antt (OpenQASM 3.0 live specification, the sections named
 -- there). A part looks for values of one kind, each with a spelling of its own, and tells the value that is spelled, or that
 -- none is.
-use Rattle.std.specs.Prelude.{◌≡◌, ◌≢◌, ℕ, ◌<◌, ◌≤◌, List, ◌++◌, Option, Some, None, Bool, true, false, codes}
+use Rattle.std.specs.Prelude.{◌≡◌, ◌≢◌, ℕ, ◌≤◌, List, ◌++◌, Option, Some, None, Bool, true, false, codes}
 use Rattle.std.specs.Borrow.{Bor}
 use Rattle.std.specs.Fmt.{decimal}
 use Rattle.qt_first.specs.declared.program.Statement.{Statement}
@@ -27,6 +27,10 @@ pub record IsSized (registers : Registers) : Type 0 where
   pub some_bits : 1 ≤ registers.bits
   pub few_bits : registers.bits ≤ 4
 
+-- a number behind an opening
+abbrev pub number_text : List ℕ → ℕ → List ℕ
+number_text opening number = opening ++ decimal number
+
 -- the lines that declare such registers, with the two lines before them
 abbrev pub registers_text : Registers → List ℕ
 registers_text registers = head_text registers.qubits registers.bits
@@ -38,13 +42,6 @@ IsSize size = (1 ≤ size) × (size ≤ 4)
 -- the line of a gate on one qubit
 abbrev pub single_gate_text : List ℕ → ℕ → List ℕ
 single_gate_text name qubit = line (name ++ codes " " ++ element (codes "q") qubit ++ codes ";")
-
--- two indexes, each below its bound, and a line that has the first behind an opening and the second behind what stands between
-abbrev pub AreBelow : ℕ → ℕ → ℕ × ℕ → Type 0
-AreBelow first second places = (places.0 < first) × (places.1 < second)
-
-abbrev pub indexes_text : List ℕ → List ℕ → ℕ × ℕ → List ℕ
-indexes_text opening between places = line (opening ++ decimal places.0 ++ between ++ decimal places.1 ++ codes "];")
 
 -- the two qubits of a controlled gate, the control first, and its line
 abbrev pub AreControlAndTarget : ℕ → ℕ × ℕ → Type 0

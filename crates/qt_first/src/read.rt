@@ -5,7 +5,6 @@ ghost use Rattle.std.specs.Fmt.{decimal};
 ghost use Rattle.std.specs.List.{flat_map};
 ghost use Rattle.qt_first.specs.Form.{ArePlaced, IsPlaced, Reads, measurements, statement_text};
 ghost use Rattle.qt_first.specs.Pieces.{
-  AreBelow,
   AreControlAndTarget,
   AreQubitAndBit,
   BeginsWith,
@@ -13,9 +12,9 @@ ghost use Rattle.qt_first.specs.Pieces.{
   IsSized,
   IsSpelledBy,
   controlled_x_text,
-  indexes_text,
   is_measurement,
   measurement_text,
+  number_text,
   registers_text,
   single_gate_text,
 };
@@ -61,10 +60,8 @@ pub fn read(alloc: Global, text: &[u8]) -> Result<Option<Program>, AllocError>
 fn head(text: &[u8]) -> Option<(Registers, &[u8])>
     ensures { BeginsWith IsSized registers_text text.now result }
 {
-    let rest = after(text, b"OPENQASM 3.0;\ninclude \"stdgates.inc\";\nqubit[")?;
-    let (qubits, rest) = size(rest)?;
-    let rest = after(rest, b"] q;\nbit[")?;
-    let (bits, rest) = size(rest)?;
+    let (qubits, rest) = size(text, b"OPENQASM 3.0;\ninclude \"stdgates.inc\";\nqubit[")?;
+    let (bits, rest) = size(rest, b"] q;\nbit[")?;
     let rest = after(rest, b"] c;\n")?;
     Some((Registers { qubits, bits }, rest))
 }
@@ -142,8 +139,7 @@ fn single_gate<'a>(text: &'a [u8], name: &[u8], qubits: u32) -> Option<(u32, &'a
     ensures { BeginsWith (λ qubit. qubit < qubits) (single_gate_text name.now) text.now result }
 {
     let rest = after(text, name)?;
-    let rest = after(rest, b" q[")?;
-    let (qubit, rest) = number(rest, qubits)?;
+    let (qubit, rest) = number(rest, b" q[", qubits)?;
     let rest = after(rest, b"];\n")?;
     Some((qubit, rest))
 }
@@ -153,7 +149,9 @@ fn controlled_x(text: &[u8], qubits: u32) -> Option<((u32, u32), &[u8])>
     requires { qubits ≤ 4 }
     ensures { BeginsWith (AreControlAndTarget qubits) controlled_x_text text.now result }
 {
-    let ((control, target), rest) = indexes(text, b"cx q[", qubits, b"], q[", qubits)?;
+    let (control, rest) = number(text, b"cx q[", qubits)?;
+    let (target, rest) = number(rest, b"], q[", qubits)?;
+    let rest = after(rest, b"];\n")?;
     (control != target).then_some(((control, target), rest))
 }
 
@@ -162,41 +160,31 @@ fn measurement(text: &[u8], registers: Registers) -> Option<((u32, u32), &[u8])>
     requires { IsSized registers }
     ensures { BeginsWith (AreQubitAndBit registers) measurement_text text.now result }
 {
-    let (bits, qubits) = (registers.bits, registers.qubits);
-    let ((bit, qubit), rest) = indexes(text, b"c[", bits, b"] = measure q[", qubits)?;
+    let (bit, rest) = number(text, b"c[", registers.bits)?;
+    let (qubit, rest) = number(rest, b"] = measure q[", registers.qubits)?;
+    let rest = after(rest, b"];\n")?;
     Some(((qubit, bit), rest))
 }
 
-/// The two indexes of a line, each below its bound: the first behind the opening, and the second behind what stands between.
-fn indexes<'a>(
-    text: &'a [u8],
-    opening: &[u8],
-    first_bound: u32,
-    between: &[u8],
-    second_bound: u32,
-) -> Option<((u32, u32), &'a [u8])>
-    requires first { first_bound ≤ 10 }
-    requires second { second_bound ≤ 10 }
-    ensures { BeginsWith (AreBelow first_bound second_bound) (indexes_text opening.now between.now) text.now result }
+/// The size of a register behind an opening.
+fn size<'a>(text: &'a [u8], opening: &[u8]) -> Option<(u32, &'a [u8])>
+    ensures { BeginsWith IsSize (number_text opening.now) text.now result }
 {
-    let rest = after(text, opening)?;
-    let (first, rest) = number(rest, first_bound)?;
-    let rest = after(rest, between)?;
-    let (second, rest) = number(rest, second_bound)?;
-    let rest = after(rest, b"];\n")?;
-    Some(((first, second), rest))
-}
-
-/// The size of a register.
-fn size(text: &[u8]) -> Option<(u32, &[u8])>
-    ensures { BeginsWith IsSize decimal text.now result }
-{
-    let (size, rest) = number(text, PLACES + 1)?;
+    let (size, rest) = number(text, opening, PLACES + 1)?;
     (size > 0).then_some((size, rest))
 }
 
+/// A number below the bound behind an opening.
+fn number<'a>(text: &'a [u8], opening: &[u8], bound: u32) -> Option<(u32, &'a [u8])>
+    requires { bound ≤ 10 }
+    ensures { BeginsWith (λ number. number < bound) (number_text opening.now) text.now result }
+{
+    let rest = after(text, opening)?;
+    digit(rest, bound)
+}
+
 /// A number below the bound, in one decimal digit.
-fn number(text: &[u8], bound: u32) -> Option<(u32, &[u8])>
+fn digit(text: &[u8], bound: u32) -> Option<(u32, &[u8])>
     requires { bound ≤ 10 }
     ensures { BeginsWith (λ number. number < bound) decimal text.now result }
 {
