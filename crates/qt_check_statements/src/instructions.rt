@@ -13,7 +13,7 @@ use qt_tree::place::Place;
 use qt_tree::refusal::TextRefusal;
 use qt_tree::statement::{Operand, Target};
 use qt_typed::call::TypedQubits;
-use qt_typed::statement::TypedAction;
+use qt_typed::statement::{TypedAction, TypedRight};
 use qt_typing::names::Names;
 use sqlite_items::Boxed;
 use std::alloc::Global;
@@ -54,6 +54,26 @@ pub fn measure(
             target: None,
         }),
     }
+}
+
+/// `c = measure q;`: the refusals of the qubits come before those of the target.
+#[tactic(auto, unfolding(qt_typing::specs::Statements::assign_outcomes))]
+pub fn assign_outcomes(
+    alloc: Global,
+    names: &Names,
+    place: Place,
+    target: &Target,
+    qubits: &Operand,
+) -> Result<TypedAction, TextRefusal>
+    ensures { Gives (spec.assign_outcomes place target.now qubits.now names.now) result }
+{
+    let of = operand_qubits(alloc, names, place, qubits)?;
+    let target = measured_target(alloc, names, place, of.get(), target)?;
+    let qubits = of.into_inner();
+    Ok(TypedAction::Assign {
+        target: target.into_inner(),
+        value: TypedRight::Measure { qubits },
+    })
 }
 
 /// `reset q;`
