@@ -1,8 +1,10 @@
 -- The elements of a list by its items, and elements behind others.
-use Rattle.std.proofs.Common.{◌≡◌, ℕ, arith, nat_eq, not, List, [], ◌∷◌, ◌++◌, length, Ok, Err, ap, sym, ◌∙◌, refl, append-nil, append_assoc}
+use Rattle.std.proofs.Common.{◌≡◌, ℕ, arith, nat_eq, not, List, [], ◌∷◌, ◌++◌, length, append-nil, append_assoc}
+use Rattle.std.proofs.Common.{Ok, Err, ap, sym, ◌∙◌, refl}
 use Rattle.qt_tree.specs.declared.expression.Expr.{Expr}
 use Rattle.qt_tree.specs.declared.place.Place.{Place}
-use Rattle.qt_tree.specs.declared.program.ListItem.{ListItem, Row_of-ListItem, end_of-ListItem, more_of-ListItem, items-the_row-ListItem, items_shown-the_row-ListItem-0, out-ListItem}
+use Rattle.qt_tree.specs.declared.program.ListItem.{ListItem, Row_of-ListItem, end_of-ListItem, more_of-ListItem, out-ListItem}
+use Rattle.qt_tree.specs.declared.program.ListItem.{items-the_row-ListItem, items_shown-the_row-ListItem-0}
 use Rattle.qt_tree.specs.declared.program.ListItem.TheVariants as l
 use Rattle.qt_tree.specs.declared.program.ListItem.TheOpen as o
 use Rattle.qt_tree.specs.declared.refusal.TextRefusal.TheVariants as refusal

@@ -124,8 +124,8 @@ fn constant_named(
     constant_values(alloc, place, of)
 }
 
-/// The values of what a name stands for: E8 where it has none, E10 where it is neither an array of one dimension with whole numbers nor a bit
-/// register.
+/// The values of what a name stands for: E8 where it has none, E10 where it is neither an array of one dimension with whole numbers nor a
+/// bit register.
 #[tactic(auto, unfolding(qt_typing::specs::Statements::named_values))]
 pub fn named_values(
     alloc: Global,

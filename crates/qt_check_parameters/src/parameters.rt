@@ -2,7 +2,8 @@
 
 ghost use Rattle.std.specs.Prelude.{◌≡◌, [], None, Some, IfOk};
 ghost use Rattle.qt_typing.specs.Checked.{Makes};
-ghost use Rattle.qt_typing.specs.Subroutines.{parameter_of, parameters_from, qubit_named, qubit_parameter, register_named, value_named, value_parameter};
+ghost use Rattle.qt_typing.specs.Subroutines.{parameter_of, parameters_from, qubit_parameter, value_parameter};
+ghost use Rattle.qt_typing.specs.Subroutines.{qubit_named, register_named, value_named};
 
 use crate::numbers::next_number;
 use qt_check_declarations::names::declare;
