@@ -1,0 +1,12 @@
+//! The check of declared gates: their angles, bodies and names, or the first reason for refusal.
+//!
+//! Each function here is one definition of `qt_typing`, of the same name: it answers what that finds, or its refusal, or want of memory.
+//! [`rules`] says what operators make of angles of parameters and of constants beside them, [`angles`] reckons an argument in a body.
+//!
+//! The check of programs calls it.
+#![tactic(auto)]
+
+pub mod angles;
+mod builtins;
+mod reckoned;
+mod rules;
