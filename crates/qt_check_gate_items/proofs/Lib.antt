@@ -1,2 +1,3 @@
+pub mod OperatorViews
 pub mod Views
 pub mod Written
