@@ -1,3 +1,4 @@
+pub mod BodyQubits
 pub mod OperatorViews
 pub mod Views
 pub mod Written

@@ -8,6 +8,7 @@
 #![tactic(auto)]
 
 pub mod angles;
+pub mod bodies;
 mod builtins;
 pub mod operators;
 mod reckoned;
