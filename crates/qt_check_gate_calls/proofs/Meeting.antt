@@ -1,5 +1,6 @@
 -- Two registers place by place.
-use Rattle.std.proofs.Common.{◌≡◌, ℕ, zero, suc, ◌+◌, ◌≤◌, Bool, true, false, true≢false, ◌||◌, List, [], ◌∷◌, drop, length, slice_get, Option, Some, None, refl, sym, ap, ap₂, ◌∙◌, arith}
+use Rattle.std.proofs.Common.{◌≡◌, ℕ, zero, suc, ◌+◌, ◌≤◌, Bool, true, false, true≢false, ◌||◌, List, []}
+use Rattle.std.proofs.Common.{◌∷◌, drop, length, slice_get, Option, Some, None, refl, sym, ap, ap₂, ◌∙◌, arith}
 use Rattle.qt_registers.specs.declared.fixed.FixedQubit.{FixedQubit}
 use Rattle.qt_typing.specs.Gates.{meets}
 use Rattle.qt_typing.specs.Qubits.{contains, is_same_qubit, overlaps}

@@ -1,5 +1,6 @@
 -- The table of the names of standard gates is that of the standard gates themselves.
-use Rattle.std.proofs.Common.{◌≡◌, ℕ, suc, ◌+◌, Bool, true, false, if◌then◌else◌, List, [], ◌∷◌, map, Option, Some, bytes_eq, refl, ap, ◌∙◌, nat_eq, option_map, arith}
+use Rattle.std.proofs.Common.{◌≡◌, ℕ, suc, ◌+◌, Bool, true, false, if◌then◌else◌, List, [], ◌∷◌}
+use Rattle.std.proofs.Common.{map, Option, Some, bytes_eq, refl, ap, ◌∙◌, nat_eq, option_map, arith}
 use Rattle.std.proofs.lemmas.Cmp.{nat_list_eq_equiv}
 use Rattle.std.specs.Cmp.Lexicographic.{pointwise}
 use Rattle.qt_gate_calls.specs.Standard as table

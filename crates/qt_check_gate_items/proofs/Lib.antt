@@ -1,4 +1,5 @@
 pub mod BodyQubits
+pub mod Inside
 pub mod OperatorViews
 pub mod Views
 pub mod Written

@@ -6,7 +6,8 @@ use Rattle.qt_tree.specs.declared.expression.Scalar.{Scalar}
 use Rattle.qt_tree.specs.declared.expression.Range.{Range, out-Range}
 use Rattle.qt_tree.specs.declared.expression.Expr.TheFolds.{fold_out-Range, map-Range}
 use Rattle.qt_typing.specs.GateItems.{expr_operators, index_operators, scalar_operators, range_operators, operators_in, sum_of}
-use Rattle.qt_check_gate_items.specs.Operators.{operators_of, index_operators_of, scalar_operators_of, range_operators_of, optional_operators_of}
+use Rattle.qt_check_gate_items.specs.Operators.{operators_of, index_operators_of, scalar_operators_of}
+use Rattle.qt_check_gate_items.specs.Operators.{range_operators_of, optional_operators_of}
 
 pub sum_is : (exprs : List Expr) → sum_of (map operators_of exprs) ≡ operators_in exprs
 sum_is [] = refl
@@ -25,7 +26,8 @@ range_parts (Some start) (Some step) None = refl
 range_parts (Some start) (Some step) (Some end) = refl
 
 pub range_is : (range : Range) → range_operators_of range
-    ≡ optional_operators_of (out-Range range).start + optional_operators_of (out-Range range).step + optional_operators_of (out-Range range).end
+    ≡ optional_operators_of (out-Range range).start + optional_operators_of (out-Range range).step
+    + optional_operators_of (out-Range range).end
 range_is range =
     fold_out-Range ℕ ℕ ℕ ℕ expr_operators index_operators scalar_operators range_operators range
     ∙ range_parts (out-Range range).start (out-Range range).step (out-Range range).end

@@ -8,9 +8,11 @@ use Rattle.qt_tree.specs.declared.expression.Expr.TheOpen.{Expr-F}
 use Rattle.qt_tree.specs.declared.expression.Expr.TheFolds.{fold_out-Expr, map-Expr}
 use Rattle.qt_tree.specs.declared.place.Place.{Place}
 use Rattle.qt_typing.specs.declared.names.Names.{Names}
-use Rattle.qt_typing.specs.GateItems.{AnglePart, angle_in, angle_step, angle_index, angle_scalar, angle_range, angle_written, no_brackets, reckoned_of}
+use Rattle.qt_typing.specs.GateItems.{AnglePart, angle_in, angle_step, angle_index, angle_scalar}
+use Rattle.qt_typing.specs.GateItems.{angle_range, angle_written, no_brackets, reckoned_of}
 use Rattle.qt_check_gate_items.specs.Layers.{layer_of, part}
-use Rattle.qt_check_gate_items.proofs.Written.{angle_of, index_again, scalar_again, range_again, parts, expr_written, index_written, scalar_written, range_written}
+use Rattle.qt_check_gate_items.proofs.Written.{angle_of, index_again, scalar_again, range_again, parts}
+use Rattle.qt_check_gate_items.proofs.Written.{expr_written, index_written, scalar_written, range_written}
 
 pub no_brackets_again : (brackets : List (List Index)) → no_brackets (map (map (λ i. i)) brackets) ≡ no_brackets brackets
 no_brackets_again [] = refl

@@ -1,3 +1,4 @@
 pub mod Layers
 pub mod Operators
 pub mod Reckons
+pub mod Steps

@@ -2,7 +2,8 @@
 
 ghost use Rattle.std.specs.Prelude.{◌≡◌, ◌+◌, map, IfOk};
 ghost use Rattle.qt_typing.specs.GateItems as spec;
-ghost use Rattle.qt_check_gate_items.specs.Operators.{operators_of, index_operators_of, optional_operators_of, range_operators_of, scalar_operators_of};
+ghost use Rattle.qt_check_gate_items.specs.Operators.{operators_of, index_operators_of, optional_operators_of};
+ghost use Rattle.qt_check_gate_items.specs.Operators.{range_operators_of, scalar_operators_of};
 
 use qt_outside::faults::OutOfMemory;
 use qt_tree::expression::{Expr, Index, Range, Scalar};
