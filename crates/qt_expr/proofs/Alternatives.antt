@@ -28,7 +28,7 @@ before n [] = []
 before zero (f ∷ fs) = []
 before (suc n) (f ∷ fs) = first f ++ before n fs
 
-in_neither : (n : ℕ) (xs ys : List ℕ) → member n (xs ++ ys) ≡ false → (member n xs ≡ false) × (member n ys ≡ false)
+pub in_neither : (n : ℕ) (xs ys : List ℕ) → member n (xs ++ ys) ≡ false → (member n xs ≡ false) × (member n ys ≡ false)
 in_neither n [] ys e = (refl, e)
 in_neither n (x ∷ xs) ys e = by_test (eqb n x) (λ h. in_neither n xs ys h) e
   where
@@ -36,11 +36,19 @@ in_neither n (x ∷ xs) ys e = by_test (eqb n x) (λ h. in_neither n xs ys h) e
     by_test true k h = absurd (cc h)
     by_test false k h = k h
 
-skipped : {X : Type 0} (b : Bool) (x y : X) → b ≡ false → (if b then x else y) ≡ y
+pub in_both : (n : ℕ) (xs ys : List ℕ) → member n xs ≡ false → member n ys ≡ false → member n (xs ++ ys) ≡ false
+in_both n [] ys p q = q
+in_both n (x ∷ xs) ys p q = by_test (eqb n x) (λ h. in_both n xs ys h q) p
+  where
+    by_test : (b : Bool) → (member n xs ≡ false → member n (xs ++ ys) ≡ false) → (b || member n xs) ≡ false → (b || member n (xs ++ ys)) ≡ false
+    by_test true k h = cc h
+    by_test false k h = k h
+
+pub skipped : {X : Type 0} (b : Bool) (x y : X) → b ≡ false → (if b then x else y) ≡ y
 skipped true x y e = cc e
 skipped false x y e = refl
 
-taken : {X : Type 0} (b : Bool) (x y : X) → b ≡ true → (if b then x else y) ≡ x
+pub taken : {X : Type 0} (b : Bool) (x y : X) → b ≡ true → (if b then x else y) ≡ x
 taken true x y e = refl
 taken false x y e = cc e
 

@@ -71,6 +71,10 @@ module _ (tokens : List PlacedTerminal) where
   unfoldable pub read_power : ℕ → Option ℕ → ℕ → Outcome Expr
   read_power levels outer at = reading levels g.power outer at
 
+  -- the exponent behind a primary, if there is one
+  unfoldable pub read_exponent_or_none : ℕ → Option ℕ → ℕ → Outcome (Option Expr)
+  read_exponent_or_none levels outer at = reading levels (maybe {s = expr} (g.exactly_operator w.StarStar ⊳ named unary)) outer at
+
   unfoldable pub read_primary : ℕ → Option ℕ → ℕ → Outcome Expr
   read_primary levels outer at = reading levels g.primary outer at
 
@@ -79,6 +83,9 @@ module _ (tokens : List PlacedTerminal) where
 
   unfoldable pub read_in_parentheses : ℕ → Option ℕ → ℕ → Outcome Expr
   read_in_parentheses levels outer at = reading levels (g.parens {s = expr} (named any)) outer at
+
+  unfoldable pub read_parenthesized : ℕ → Option ℕ → ℕ → Outcome Expr
+  read_parenthesized levels outer at = reading levels g.parenthesized outer at
 
   unfoldable pub read_size : ℕ → Option ℕ → ℕ → Outcome Expr
   read_size levels outer at = reading levels g.size outer at

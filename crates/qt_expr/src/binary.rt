@@ -2,7 +2,11 @@
 
 ghost use Rattle.std.specs.Prelude.{◌≡◌, IfOk};
 ghost use Rattle.qt_tree.specs.declared.expression.Expr.TheVariants as e;
+ghost use Rattle.qt_grammar.specs.Outcome.{Says};
+ghost use Rattle.qt_expr.specs.HandedOn.{Joins, with_exponent};
 
+use qt_grammar::refusal::Refusal;
+use qt_lookahead::pieces::paired;
 use qt_tree::expression::{Expr, InfixOperator};
 use sqlite_items::Boxed;
 use std::alloc::{AllocError, Global};
@@ -19,7 +23,7 @@ fn both_boxed<A: Drop, B: Drop>(
 }
 
 /// A binary operator between its operands.
-pub fn binary(
+fn binary(
     alloc: Global,
     operator: InfixOperator,
     left: Expr,
@@ -33,4 +37,32 @@ pub fn binary(
         left,
         right,
     })
+}
+
+/// A binary operator between an operand and the one that was read behind it, or why that wasn't read.
+pub fn joined(
+    alloc: Global,
+    operator: InfixOperator,
+    left: Expr,
+    right: Result<(Expr, usize), Refusal>,
+) -> Result<(Expr, usize), Refusal>
+    ensures { Joins operator left right result }
+{
+    let ((left, right), at) = paired(left, right)?;
+    Ok((binary(alloc, operator, left, right)?, at))
+}
+
+/// That base with the exponent that was read behind it, if there was one, or why it wasn't read.
+pub fn powered(
+    alloc: Global,
+    base: Expr,
+    exponent: Result<(Option<Expr>, usize), Refusal>,
+) -> Result<(Expr, usize), Refusal>
+    ensures { Says (with_exponent base exponent) result }
+{
+    let ((base, exponent), at) = paired(base, exponent)?;
+    let Some(exponent) = exponent else {
+        return Ok((base, at));
+    };
+    Ok((binary(alloc, InfixOperator::Pow, base, exponent)?, at))
 }

@@ -4,12 +4,11 @@ ghost use Rattle.std.specs.Prelude.{◌≡◌, ◌<◌, ◌≤◌, length, None}
 ghost use Rattle.qt_grammar.specs.Outcome.{Says};
 ghost use Rattle.qt_expr.specs.Parser.{read_expression, read_expressions, read_in_parentheses, read_size, read_arguments, read_scalar, read_index, read_indexes, read_all_indexes, read_set, read_range, read_operation, read_more_operands};
 
-use crate::binary::binary;
+use crate::binary::joined;
 use crate::reader::Reader;
 use qt_grammar::refusal::Refusal;
 use qt_lookahead::nesting::Nesting;
 use qt_lookahead::operator::{STRENGTHS, before_operator, binary_operator};
-use qt_lookahead::pieces::paired;
 use qt_terminals::stream::TokenStream;
 use qt_tree::expression::{Expr, Index, Range, Scalar};
 use sqlite_items::Items;
@@ -57,8 +56,8 @@ fn more_operands(
         };
         let (before, behind) = before_operator(tokens, nesting, left, at)?;
         let right = operation(alloc, tokens, nesting, strength + 1, behind);
-        let ((before, right), behind) = paired(before, right)?;
-        left = binary(alloc, found, before, right)?;
+        let (both, behind) = joined(alloc, found, before, right)?;
+        left = both;
         at = behind;
     }
     Ok((left, at))

@@ -10,6 +10,7 @@ ghost use Rattle.qt_expr.specs.Nested.{Nests};
 ghost use Rattle.qt_expr.specs.Parser.{read_all_indexes, read_behind_start, read_bounds, read_bounds_or_none, read_index, read_index_form, read_index_list, read_indexes, read_last_bound, read_place_or_range, read_range, read_range_form, rest_separated, rest_some};
 
 use crate::grown::{appended, begun};
+use crate::handed_on::{closed, present};
 use crate::reader::Reader;
 use qt_grammar::refusal::Refusal;
 use qt_lookahead::begins::{begins_expression, begins_index};
@@ -66,8 +67,7 @@ impl<
             return Ok((None, at));
         }
         let at = exactly(tokens, at, Terminal::Colon)?;
-        let (end, at) = self.expression_or_none(tokens, nesting, at)?;
-        Ok((Some(end), at))
+        present(self.expression_or_none(tokens, nesting, at))
     }
 
     /// `expr [ ":" [ expr ] ]`
@@ -99,8 +99,7 @@ impl<
         if !begins_expression(tokens.terminal(at)) {
             return Ok((None, at));
         }
-        let (bounds, at) = self.bounds(tokens, nesting, at)?;
-        Ok((Some(bounds), at))
+        present(self.bounds(tokens, nesting, at))
     }
 
     /// A range from its colon on, behind its start.
@@ -178,7 +177,6 @@ impl<
     }
 
     /// `expr | range | "{" exprs "}"`
-    #[tactic(auto, unfolding(crate::specs::Parser::read_index_form, crate::specs::Parser::read_behind_start, crate::specs::Parser::read_set, crate::specs::Parser::read_place_or_range))]
     pub fn index_form(
         &self,
         tokens: &TokenStream<'_>,
@@ -268,8 +266,11 @@ impl<
         ensures { Says (read_indexes tokens.now nesting.levels nesting.outer at) result }
     {
         let at = exactly(tokens, at, Terminal::LeftBracket)?;
-        let (inner, at) = self.index_list(tokens, nesting, at)?;
-        ended(tokens, inner, at, Terminal::RightBracket)
+        closed(
+            tokens,
+            self.index_list(tokens, nesting, at),
+            Terminal::RightBracket,
+        )
     }
 
     /// Brackets with indexes, one after the other, at least one.

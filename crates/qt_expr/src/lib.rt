@@ -13,6 +13,7 @@
 mod binary;
 pub mod expression;
 pub mod grown;
+pub mod handed_on;
 mod index;
 mod literal;
 pub mod names;

@@ -3,23 +3,42 @@
 ghost use Rattle.std.specs.Prelude.{◌≡◌, ◌+◌, ◌≤◌, None, Some};
 ghost use Rattle.qt_grammar.specs.Outcome.{Says};
 ghost use Rattle.qt_expr.specs.Nested.{Nests};
-ghost use Rattle.qt_expr.specs.Parser.{read_cast, read_dimension, read_dimension_or_none, read_factor, read_in_size_of, read_measured_name, read_name, read_power, read_primary, read_scalar, read_size_of, read_sized};
+ghost use Rattle.qt_expr.specs.HandedOn.{with_size};
+ghost use Rattle.qt_expr.specs.Parser.{read_cast, read_dimension, read_dimension_or_none, read_exponent_or_none, read_factor, read_in_size_of, read_measured_name, read_name, read_parenthesized, read_power, read_primary, read_scalar, read_size_of, read_sized};
 
-use crate::binary::binary;
+use crate::binary::powered;
+use crate::handed_on::{closed, present};
 use crate::literal::literal;
 use crate::names::label;
 use crate::reader::Reader;
 use qt_grammar::refusal::Refusal;
 use qt_lookahead::nesting::{Nesting, too_deep};
 use qt_lookahead::one_token::{behind, exactly, next_is};
-use qt_lookahead::operator::{before_operator, operator, unary_operator};
-use qt_lookahead::pieces::{boxed, ended, paired};
+use qt_lookahead::operator::{operator, unary_operator};
+use qt_lookahead::pieces::{boxed, paired};
 use qt_terminals::stream::TokenStream;
 use qt_terminals::terminal::Terminal;
-use qt_tree::expression::{Expr, InfixOperator, Scalar};
+use qt_tree::expression::{Expr, Scalar};
 use qt_tree::label::Label;
 use sqlite_items::{Boxed, Items};
 use std::alloc::Global;
+
+/// The scalar type of that terminal, which isn't `bool`, with the size that was read, or why that wasn't read.
+fn sized(
+    terminal: Terminal,
+    size: Result<(Option<Boxed<Expr>>, usize), Refusal>,
+) -> Result<(Scalar, usize), Refusal>
+    ensures { result ≡ with_size terminal size }
+{
+    let (size, at) = size?;
+    let scalar = match terminal {
+        Terminal::Bit => Scalar::Bit { size },
+        Terminal::Int => Scalar::Int { size },
+        Terminal::Uint => Scalar::Uint { size },
+        _ => Scalar::Angle { size },
+    };
+    Ok((scalar, at))
+}
 
 impl<
     F: Fn(Global, &TokenStream<'_>, Nesting, usize, usize) -> Result<(Expr, usize), Refusal>,
@@ -38,12 +57,10 @@ impl<
         if !next_is(tokens, at, Terminal::LeftBracket) {
             return Ok((None, at));
         }
-        let (size, at) = boxed(self.alloc, self.size(tokens, nesting, at))?;
-        Ok((Some(size), at))
+        present(boxed(self.alloc, self.size(tokens, nesting, at)))
     }
 
     /// `"bool" | ( "bit" | "int" | "uint" | "angle" ) [ "[" expr "]" ]`
-    #[tactic(auto, unfolding(crate::specs::Parser::read_scalar, crate::specs::Parser::read_sized))]
     pub fn scalar(
         &self,
         tokens: &TokenStream<'_>,
@@ -53,24 +70,13 @@ impl<
         requires { Nests nesting.levels (F.pre self.now.operation) (F.post self.now.operation) }
         ensures { Says (read_scalar tokens.now nesting.levels nesting.outer at) result }
     {
-        match tokens.terminal(at) {
+        let terminal = tokens.terminal(at);
+        match terminal {
             Terminal::Bool => Ok((Scalar::Bool, behind(tokens, at))),
-            Terminal::Bit => {
-                let (size, at) = self.size_or_none(tokens, nesting, behind(tokens, at))?;
-                Ok((Scalar::Bit { size }, at))
-            }
-            Terminal::Int => {
-                let (size, at) = self.size_or_none(tokens, nesting, behind(tokens, at))?;
-                Ok((Scalar::Int { size }, at))
-            }
-            Terminal::Uint => {
-                let (size, at) = self.size_or_none(tokens, nesting, behind(tokens, at))?;
-                Ok((Scalar::Uint { size }, at))
-            }
-            Terminal::Angle => {
-                let (size, at) = self.size_or_none(tokens, nesting, behind(tokens, at))?;
-                Ok((Scalar::Angle { size }, at))
-            }
+            Terminal::Bit | Terminal::Int | Terminal::Uint | Terminal::Angle => sized(
+                terminal,
+                self.size_or_none(tokens, nesting, behind(tokens, at)),
+            ),
             _ => Err(Refusal::Syntax(at)),
         }
     }
@@ -104,8 +110,11 @@ impl<
         ensures { Says (read_measured_name tokens.now nesting.levels nesting.outer at) result }
     {
         let at = exactly(tokens, at, Terminal::LeftParen)?;
-        let (inner, at) = self.in_size_of(tokens, nesting, at)?;
-        ended(tokens, inner, at, Terminal::RightParen)
+        closed(
+            tokens,
+            self.in_size_of(tokens, nesting, at),
+            Terminal::RightParen,
+        )
     }
 
     /// `"sizeof" "(" Name [ "," expr ] ")"`
@@ -156,8 +165,7 @@ impl<
             return Ok((None, at));
         }
         let at = exactly(tokens, at, Terminal::Comma)?;
-        let (dimension, at) = boxed(self.alloc, self.expression(tokens, nesting, at))?;
-        Ok((Some(dimension), at))
+        present(boxed(self.alloc, self.expression(tokens, nesting, at)))
     }
 
     /// `Name [ "," expr ]`
@@ -203,8 +211,22 @@ impl<
         }
     }
 
+    /// `"(" expr ")"`, as an expression of its own.
+    #[tactic(auto, unfolding(crate::specs::Parser::read_parenthesized, crate::specs::Parser::read_in_parentheses))]
+    pub fn parenthesized(
+        &self,
+        tokens: &TokenStream<'_>,
+        nesting: Nesting,
+        at: usize,
+    ) -> Result<(Expr, usize), Refusal>
+        requires { Nests nesting.levels (F.pre self.now.operation) (F.post self.now.operation) }
+        ensures { Says (read_parenthesized tokens.now nesting.levels nesting.outer at) result }
+    {
+        let (inner, at) = boxed(self.alloc, self.in_parentheses(tokens, nesting, at))?;
+        Ok((Expr::Parenthesized { inner }, at))
+    }
+
     /// A literal, an expression in parentheses, a name or a call, a cast, or `sizeof`.
-    #[tactic(auto, unfolding(crate::specs::Parser::read_primary, crate::specs::Parser::read_literal, crate::specs::Parser::read_in_parentheses, crate::specs::Parser::read_name, crate::specs::Parser::read_cast, crate::specs::Parser::read_size_of))]
     pub fn primary(
         &self,
         tokens: &TokenStream<'_>,
@@ -215,10 +237,7 @@ impl<
         ensures { Says (read_primary tokens.now nesting.levels nesting.outer at) result }
     {
         match tokens.terminal(at) {
-            Terminal::LeftParen => {
-                let (inner, at) = boxed(self.alloc, self.in_parentheses(tokens, nesting, at))?;
-                Ok((Expr::Parenthesized { inner }, at))
-            }
+            Terminal::LeftParen => self.parenthesized(tokens, nesting, at),
             Terminal::Name => self.name(tokens, nesting, at),
             Terminal::Bool | Terminal::Bit | Terminal::Int | Terminal::Uint | Terminal::Angle => {
                 self.cast(tokens, nesting, at)
@@ -228,8 +247,26 @@ impl<
         }
     }
 
+    /// `[ "**" operand ]`
+    #[tactic(auto, unfolding(crate::specs::Parser::read_exponent_or_none, crate::specs::Parser::read_unary))]
+    pub fn exponent_or_none(
+        &self,
+        tokens: &TokenStream<'_>,
+        nesting: Nesting,
+        at: usize,
+    ) -> Result<(Option<Expr>, usize), Refusal>
+        requires { Nests nesting.levels (F.pre self.now.operation) (F.post self.now.operation) }
+        ensures { Says (read_exponent_or_none tokens.now nesting.levels nesting.outer at) result }
+    {
+        if !next_is(tokens, at, Terminal::StarStar) {
+            return Ok((None, at));
+        }
+        let at = operator(tokens, nesting, at)?;
+        present(self.unary(tokens, nesting, at))
+    }
+
     /// A primary, with its exponent if there is one.
-    #[tactic(auto, unfolding(crate::specs::Parser::read_power, crate::specs::Parser::read_primary, crate::specs::Parser::read_unary))]
+    #[tactic(auto, unfolding(crate::specs::Parser::read_power, crate::specs::Parser::read_primary, crate::specs::Parser::read_exponent_or_none))]
     pub fn power(
         &self,
         tokens: &TokenStream<'_>,
@@ -240,12 +277,7 @@ impl<
         ensures { Says (read_power tokens.now nesting.levels nesting.outer at) result }
     {
         let (base, at) = self.primary(tokens, nesting, at)?;
-        if !next_is(tokens, at, Terminal::StarStar) {
-            return Ok((base, at));
-        }
-        let (base, at) = before_operator(tokens, nesting, base, at)?;
-        let ((base, exponent), at) = paired(base, self.unary(tokens, nesting, at))?;
-        Ok((binary(self.alloc, InfixOperator::Pow, base, exponent)?, at))
+        powered(self.alloc, base, self.exponent_or_none(tokens, nesting, at))
     }
 
     /// A unary operator with its operand, or a primary with its exponent if there is one.

@@ -10,12 +10,12 @@ ghost use Rattle.qt_expr.specs.Nested.{Nests};
 ghost use Rattle.qt_expr.specs.Parser.{read_any, read_arguments, read_expression, read_expression_or_none, read_expressions, read_in_parentheses, read_list, read_list_or_none, read_members, read_set, read_size, read_unary, rest_separated};
 
 use crate::grown::{appended, begun};
+use crate::handed_on::{closed, present};
 use qt_grammar::refusal::Refusal;
 use qt_lookahead::begins::begins_expression;
 use qt_lookahead::nesting::{Nesting, too_deep};
 use qt_lookahead::one_token::{behind, exactly, next_is};
 use qt_lookahead::operator::STRENGTHS;
-use qt_lookahead::pieces::ended;
 use qt_terminals::stream::TokenStream;
 use qt_terminals::terminal::Terminal;
 use qt_tree::expression::Expr;
@@ -62,8 +62,7 @@ impl<
         if !begins_expression(tokens.terminal(at)) {
             return Ok((None, at));
         }
-        let (found, at) = self.expression(tokens, nesting, at)?;
-        Ok((Some(found), at))
+        present(self.expression(tokens, nesting, at))
     }
 
     /// Expressions with commas between, at least one.
@@ -153,8 +152,7 @@ impl<
         ensures { Says (read_in_parentheses tokens.now nesting.levels nesting.outer at) result }
     {
         let at = exactly(tokens, at, Terminal::LeftParen)?;
-        let (inner, at) = self.any(tokens, nesting, at)?;
-        ended(tokens, inner, at, Terminal::RightParen)
+        closed(tokens, self.any(tokens, nesting, at), Terminal::RightParen)
     }
 
     /// `"[" expr "]"`
@@ -169,8 +167,11 @@ impl<
         ensures { Says (read_size tokens.now nesting.levels nesting.outer at) result }
     {
         let at = exactly(tokens, at, Terminal::LeftBracket)?;
-        let (inner, at) = self.any(tokens, nesting, at)?;
-        ended(tokens, inner, at, Terminal::RightBracket)
+        closed(
+            tokens,
+            self.any(tokens, nesting, at),
+            Terminal::RightBracket,
+        )
     }
 
     /// Expressions with commas between, each one level deeper, at least one.
@@ -240,8 +241,11 @@ impl<
         ensures { Says (read_arguments tokens.now nesting.levels nesting.outer at) result }
     {
         let at = exactly(tokens, at, Terminal::LeftParen)?;
-        let (inner, at) = self.list_or_none(tokens, nesting, at)?;
-        ended(tokens, inner, at, Terminal::RightParen)
+        closed(
+            tokens,
+            self.list_or_none(tokens, nesting, at),
+            Terminal::RightParen,
+        )
     }
 
     /// What stands in the braces of a set: a list.
@@ -270,7 +274,10 @@ impl<
         ensures { Says (read_set tokens.now nesting.levels nesting.outer at) result }
     {
         let at = exactly(tokens, at, Terminal::LeftBrace)?;
-        let (inner, at) = self.members(tokens, nesting, at)?;
-        ended(tokens, inner, at, Terminal::RightBrace)
+        closed(
+            tokens,
+            self.members(tokens, nesting, at),
+            Terminal::RightBrace,
+        )
     }
 }

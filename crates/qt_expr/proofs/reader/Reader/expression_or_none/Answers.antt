@@ -1,0 +1,18 @@
+use Rattle.std.proofs.Common.{rules, arith, ◌≡◌, true, sym, subst}
+use Rattle.std.proofs.lemmas.Grind.{common_steps}
+use Rattle.qt_terminals.specs.Terminals.{stream}
+use Rattle.qt_grammar.specs.Sorts.{expr}
+use Rattle.qt_grammar.specs.Form.{member, terminal_at}
+use Rattle.qt_grammar.specs.Lookahead.{first}
+use Rattle.qt_grammar.specs.Language.{expression}
+use Rattle.qt_grammar.specs.Outcome.{Says}
+use Rattle.qt_expr.specs.Parser.{read_expression_or_none, read_expression}
+use Rattle.qt_expr.proofs.HandedOn.{present_says}
+use Rattle.qt_expr.proofs.reader.Reader.expression_or_none.Goals as goal
+
+pub returns : goal.returns
+unfolding read_expression_or_none read_expression
+returns g c =
+    let ts = c.args.tokens.now in
+    let begins : member (terminal_at (stream ts) c.args.at) (first {s = expr} (expression)) ≡ true = first_of (search rules, grind (arith, common_steps)) in
+    subst (λ out. Says (read_expression_or_none ts c.args.nesting.levels c.args.nesting.outer c.args.at) out) (sym c.present.ensures) (present_says ts c.args.nesting.levels c.args.nesting.outer c.args.at {s = expr} (expression) c.expression.result begins c.expression.ensures)
