@@ -33,6 +33,10 @@ says_on out (Ok p) result h t = rw h t
 says_on out (Err e) (Ok q) h t = cc t
 says_on out (Err e) (Err x) h t = λ n. h (λ same. n (cc (t n, same))) ∙ t n
 
+-- what ends with a token
+pub closed_says : {A : Type 0} (tokens : List PlacedTerminal) (n : ℕ) (out found : Outcome A) → Says out found → Says (then_token tokens n out) (then_token tokens n found)
+closed_says tokens n out found h = says_then out found (λ x m. and_then (read_exactly tokens n m) (λ k j. Ok (x, j))) h
+
 same : {A : Type 0} (out : Outcome A) → and_then {A = A} {B = A} out (λ x j. Ok (x, j)) ≡ out
 same (Ok p) = refl
 same (Err e) = refl

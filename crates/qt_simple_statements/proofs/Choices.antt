@@ -1,5 +1,6 @@
 -- Statements: the next terminal decides which form is read.
-use Rattle.std.proofs.Common.{◌≡◌, ℕ, ◌⊎◌, inl, inr, List, [], ◌∷◌, true, false, None, ◌∙◌, refl}
+use Rattle.std.proofs.Common.{◌≡◌, ℕ, ◌⊎◌, inl, inr, List, [], ◌∷◌, true, false, None, ◌∙◌, refl, sym, subst, Result}
+use Rattle.qt_tree.specs.declared.statement.StatementForm.{StatementForm}
 use Rattle.qt_tree.specs.declared.statement.StatementForm.TheVariants as s
 use Rattle.qt_terminals.specs.declared.terminal.Terminal.{Terminal}
 use Rattle.qt_terminals.specs.declared.terminal.Terminal.TheVariants as w
@@ -8,10 +9,12 @@ use Rattle.qt_terminals.specs.Terminals.{PlacedTerminal, stream}
 use Rattle.qt_grammar.specs.Sorts.{form}
 use Rattle.qt_grammar.specs.Form.{Form, member}
 use Rattle.qt_grammar.specs.Lookahead.{first}
+use Rattle.qt_grammar.specs.declared.refusal.Refusal.{Refusal}
+use Rattle.qt_grammar.specs.Outcome.{Says}
 use Rattle.qt_grammar.specs.Language as g
 use Rattle.qt_expr.proofs.Alternatives.{DiffersFrom, none_of, alternative, last_alternative, nth, before}
 use Rattle.qt_expr.specs.Parser.{reading}
-use Rattle.qt_simple_statements.specs.Parser.{read_statement_form, read_keyword_alone, read_declaration, read_bit_register, read_constant, read_alias, read_by_name, read_gate_statement, read_measurement, read_reset, read_barrier, read_return}
+use Rattle.qt_simple_statements.specs.Parser.{read_statement_form, read_keyword_alone, read_declaration, read_gate_statement}
 
 -- the statements but for `end`
 abbrev pub others : List (Form form)
@@ -35,7 +38,12 @@ module _ (tokens : List PlacedTerminal) (levels at : ℕ) where
   unfolding read_statement_form
   statement_is n k e p q = alternative tokens levels None at {s = form} others (g.keyword_alone w.EndWord s.End) n k e p q
 
-  pub declaration_is : (k : Terminal) → (stream tokens at).terminal ≡ k → member (code k) (first g.declaration) ≡ true → read_statement_form tokens levels at ≡ read_declaration tokens levels at
+  -- the same of what was read, where the terminal that stands there is given
+  pub chosen_says : (n : ℕ) (k stands : Terminal) (r : Result (StatementForm × ℕ) Refusal) → stands ≡ (stream tokens at).terminal → stands ≡ k → member (code k) (before n others) ≡ false → member (code k) (first (nth n others (g.keyword_alone w.EndWord s.End))) ≡ true
+      → Says (reading tokens levels (nth n others (g.keyword_alone w.EndWord s.End)) None at) r → Says (read_statement_form tokens levels at) r
+  chosen_says n k stands r here same p q h = subst (λ out. Says out r) (sym (statement_is n k (sym here ∙ same) p q)) h
+
+  declaration_is : (k : Terminal) → (stream tokens at).terminal ≡ k → member (code k) (first g.declaration) ≡ true → read_statement_form tokens levels at ≡ read_declaration tokens levels at
   unfolding read_declaration
   declaration_is k e q = statement_is 0 k e refl q
 
@@ -47,23 +55,7 @@ module _ (tokens : List PlacedTerminal) (levels at : ℕ) where
   declares k e (inr (inr (inr (inl h)))) = declaration_is w.Uint (e ∙ h) refl
   declares k e (inr (inr (inr (inr h)))) = declaration_is w.Angle (e ∙ h) refl
 
-  pub bit_register_is : (stream tokens at).terminal ≡ w.Creg → read_statement_form tokens levels at ≡ read_bit_register tokens levels at
-  unfolding read_bit_register
-  bit_register_is e = statement_is 1 w.Creg e refl refl
-
-  pub constant_is : (stream tokens at).terminal ≡ w.Const → read_statement_form tokens levels at ≡ read_constant tokens levels at
-  unfolding read_constant
-  constant_is e = statement_is 2 w.Const e refl refl
-
-  pub alias_is : (stream tokens at).terminal ≡ w.Let → read_statement_form tokens levels at ≡ read_alias tokens levels at
-  unfolding read_alias
-  alias_is e = statement_is 3 w.Let e refl refl
-
-  pub by_name_is : (stream tokens at).terminal ≡ w.Name → read_statement_form tokens levels at ≡ read_by_name tokens levels at
-  unfolding read_by_name
-  by_name_is e = statement_is 4 w.Name e refl refl
-
-  pub gate_statement_is : (k : Terminal) → (stream tokens at).terminal ≡ k → member (code k) (before 5 others) ≡ false → member (code k) (first g.gate_statement) ≡ true
+  gate_statement_is : (k : Terminal) → (stream tokens at).terminal ≡ k → member (code k) (before 5 others) ≡ false → member (code k) (first g.gate_statement) ≡ true
       → read_statement_form tokens levels at ≡ read_gate_statement tokens levels at
   unfolding read_gate_statement
   gate_statement_is k e p q = statement_is 5 k e p q
@@ -75,27 +67,3 @@ module _ (tokens : List PlacedTerminal) (levels at : ℕ) where
   calls k e (inr (inr (inl h))) = gate_statement_is w.Ctrl (e ∙ h) refl refl
   calls k e (inr (inr (inr (inl h)))) = gate_statement_is w.NegCtrl (e ∙ h) refl refl
   calls k e (inr (inr (inr (inr h)))) = gate_statement_is w.GPhase (e ∙ h) refl refl
-
-  pub measurement_is : (stream tokens at).terminal ≡ w.Measure → read_statement_form tokens levels at ≡ read_measurement tokens levels at
-  unfolding read_measurement
-  measurement_is e = statement_is 6 w.Measure e refl refl
-
-  pub reset_is : (stream tokens at).terminal ≡ w.Reset → read_statement_form tokens levels at ≡ read_reset tokens levels at
-  unfolding read_reset
-  reset_is e = statement_is 7 w.Reset e refl refl
-
-  pub barrier_is : (stream tokens at).terminal ≡ w.Barrier → read_statement_form tokens levels at ≡ read_barrier tokens levels at
-  unfolding read_barrier
-  barrier_is e = statement_is 8 w.Barrier e refl refl
-
-  pub break_is : (stream tokens at).terminal ≡ w.Break → read_statement_form tokens levels at ≡ read_keyword_alone tokens w.Break s.Break at
-  unfolding read_keyword_alone
-  break_is e = statement_is 12 w.Break e refl refl
-
-  pub continue_is : (stream tokens at).terminal ≡ w.Continue → read_statement_form tokens levels at ≡ read_keyword_alone tokens w.Continue s.Continue at
-  unfolding read_keyword_alone
-  continue_is e = statement_is 13 w.Continue e refl refl
-
-  pub return_is : (stream tokens at).terminal ≡ w.Return → read_statement_form tokens levels at ≡ read_return tokens levels at
-  unfolding read_return
-  return_is e = statement_is 14 w.Return e refl refl

@@ -1,3 +1,4 @@
 pub mod Choices
 pub mod Lists
+pub mod Semicolons
 pub mod Tails

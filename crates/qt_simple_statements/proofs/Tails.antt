@@ -19,7 +19,7 @@ use Rattle.qt_grammar.specs.Language.{◌⊕◌}
 use Rattle.qt_grammar.specs.Language as g
 use Rattle.qt_lookahead.specs.OneToken.{read_exactly}
 use Rattle.qt_expr.specs.Parser.{reading, read_label, read_expression, read_all_indexes}
-use Rattle.qt_simple_statements.specs.Semicolon.{then_semicolon}
+use Rattle.qt_expr.specs.HandedOn.{then_token}
 use Rattle.qt_simple_statements.specs.Parser.{applied, read_assigned, read_compound, read_behind_first_name, read_by_name}
 
 -- ---- behind a name at the beginning of a statement
@@ -47,18 +47,9 @@ module _ {A B C : Type 0} where
   bracketed make brackets (Ok z) = refl
   bracketed make brackets (Err x) = refl
 
-pub by_name_is : (tokens : List PlacedTerminal) (levels at : ℕ) → read_by_name tokens levels at ≡ and_then (read_label tokens at) (λ name m. then_semicolon tokens (read_behind_first_name tokens levels name m))
+pub by_name_is : (tokens : List PlacedTerminal) (levels at : ℕ) → read_by_name tokens levels at ≡ and_then (read_label tokens at) (λ name m. then_token tokens (code w.Semicolon) (read_behind_first_name tokens levels name m))
 unfolding read_by_name read_label read_behind_first_name read_exactly
 by_name_is tokens levels at = named_and_ended (reading tokens levels g.a_label None at) (λ m. reading tokens levels g.behind_first_name None m) (λ i. reading tokens levels (g.exactly w.Semicolon) None i)
-
-says_itself : {A : Type 0} (out : Outcome A) → Says out out
-says_itself (Ok p) = refl
-says_itself (Err e) = λ n. refl
-
--- what is read before a semicolon is told with it
-pub semicolon_says : {A : Type 0} (tokens : List PlacedTerminal) (out : Outcome A) (found : Result (A × ℕ) Refusal) → Says out found → Says (then_semicolon tokens out) (then_semicolon tokens found)
-semicolon_says tokens out (Ok p) h = rw h (says_itself (then_semicolon tokens (Ok p)))
-semicolon_says tokens out (Err e) h = λ n. rw (h n) refl
 
 -- what may stand behind a name: brackets first, or something else
 abbrev indexed_tail : Form statement_tail

@@ -1,2 +1,1 @@
 pub mod Parser
-pub mod Semicolon

@@ -192,6 +192,10 @@ module _ (tokens : List PlacedTerminal) where
   unfoldable pub read_measured_to : ℕ → ℕ → Outcome (Option Target)
   read_measured_to levels at = reading tokens levels (maybe {s = target} (g.exactly w.Arrow ⊳ g.a_target)) None at
 
+  -- a measurement before its semicolon
+  unfoldable pub read_stored_measurement : ℕ → ℕ → Outcome (Operand × Option Target)
+  read_stored_measurement levels at = reading tokens levels (g.measured ⊗ maybe {s = target} (g.exactly w.Arrow ⊳ g.a_target)) None at
+
   unfoldable pub read_measurement : ℕ → ℕ → Outcome StatementForm
   read_measurement levels at = reading tokens levels g.measurement None at
 

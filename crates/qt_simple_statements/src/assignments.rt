@@ -6,8 +6,8 @@ ghost use Rattle.qt_tree.specs.declared.statement.CalledGate.TheVariants as gate
 ghost use Rattle.qt_simple_statements.specs.Parser.{read_assigned, read_compound, read_call_operands, read_called, read_behind_first_name, read_by_name};
 
 use crate::operands::{first_value, operands};
-use crate::semicolon::with_semicolon_behind;
 use qt_expr::expression::{all_indexes, arguments, expression};
+use qt_expr::handed_on::{closed, present};
 use qt_expr::names::label;
 use qt_grammar::refusal::Refusal;
 use qt_lookahead::begins::begins_assignment;
@@ -76,8 +76,7 @@ fn call_operands(
     if !next_is(tokens, at, Terminal::Name) {
         return Ok((None, at));
     }
-    let (operands, at) = operands(alloc, tokens, levels, at, Terminal::Comma)?;
-    Ok((Some(operands), at))
+    present(operands(alloc, tokens, levels, at, Terminal::Comma))
 }
 
 /// A call of that name with arguments: of a gate where operands follow, else of a subroutine.
@@ -155,5 +154,5 @@ pub fn by_name(
 {
     let (name, at) = label(alloc, tokens, at)?;
     let form = behind_first_name(alloc, tokens, levels, at, name);
-    with_semicolon_behind(tokens, form)
+    closed(tokens, form, Terminal::Semicolon)
 }

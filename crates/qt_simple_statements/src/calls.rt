@@ -11,11 +11,12 @@ ghost use Rattle.qt_simple_statements.specs.Parser.{modifier_with_at, read_contr
 use crate::operands::{any_operands, operands};
 use qt_expr::expression::{arguments, in_parentheses};
 use qt_expr::grown::{appended, begun};
+use qt_expr::handed_on::{closed, present};
 use qt_expr::names::label;
 use qt_grammar::refusal::Refusal;
 use qt_lookahead::begins::begins_modifier;
 use qt_lookahead::one_token::{behind, exactly, next_is};
-use qt_lookahead::pieces::{ended, paired};
+use qt_lookahead::pieces::paired;
 use qt_terminals::stream::TokenStream;
 use qt_terminals::terminal::Terminal;
 use qt_tree::expression::Expr;
@@ -39,8 +40,7 @@ fn controls(
     if !next_is(tokens, at, Terminal::LeftParen) {
         return Ok((None, at));
     }
-    let (count, at) = in_parentheses(alloc, tokens, levels, at)?;
-    Ok((Some(count), at))
+    present(in_parentheses(alloc, tokens, levels, at))
 }
 
 /// `"pow" "(" expr ")"`, of which the exponent is answered.
@@ -94,8 +94,8 @@ fn modifier_with_at(
 ) -> Result<(Modifier, usize), Refusal>
     ensures { Says (read_modifier_with_at tokens.now levels at) result }
 {
-    let (modifier, at) = modifier(alloc, tokens, levels, at)?;
-    ended(tokens, modifier, at, Terminal::At)
+    let modifier = modifier(alloc, tokens, levels, at);
+    closed(tokens, modifier, Terminal::At)
 }
 
 /// `{ modifier "@" }`, at least one; the outermost is the first.
@@ -168,8 +168,7 @@ fn gate_arguments(
     if !next_is(tokens, at, Terminal::LeftParen) {
         return Ok((None, at));
     }
-    let (arguments, at) = arguments(alloc, tokens, levels, at)?;
-    Ok((Some(arguments), at))
+    present(arguments(alloc, tokens, levels, at))
 }
 
 /// `Name [ "(" [ exprs ] ")" ] operands`

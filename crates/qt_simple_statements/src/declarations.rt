@@ -5,10 +5,11 @@ ghost use Rattle.qt_simple_statements.specs.Parser.{read_declaration, read_optio
 
 use crate::operands::{first_value, operands};
 use qt_expr::expression::{expression, scalar, size};
+use qt_expr::handed_on::{closed, present};
 use qt_expr::names::label;
 use qt_grammar::refusal::Refusal;
 use qt_lookahead::one_token::{exactly, next_is};
-use qt_lookahead::pieces::{paired, with_semicolon};
+use qt_lookahead::pieces::paired;
 use qt_terminals::stream::TokenStream;
 use qt_terminals::terminal::Terminal;
 use qt_tree::expression::{Expr, Scalar};
@@ -30,8 +31,7 @@ fn optional_value(
     if !next_is(tokens, at, Terminal::Assign) {
         return Ok((None, at));
     }
-    let (value, at) = first_value(alloc, tokens, levels, at)?;
-    Ok((Some(value), at))
+    present(first_value(alloc, tokens, levels, at))
 }
 
 /// `Name [ "=" right ]`
@@ -72,8 +72,8 @@ pub fn declaration(
 ) -> Result<(StatementForm, usize), Refusal>
     ensures { Says (read_declaration tokens.now levels at) result }
 {
-    let (parts, at) = typed_value(alloc, tokens, levels, at)?;
-    let ((scalar, (name, value)), at) = with_semicolon(tokens, parts, at)?;
+    let parts = typed_value(alloc, tokens, levels, at);
+    let ((scalar, (name, value)), at) = closed(tokens, parts, Terminal::Semicolon)?;
     let form = StatementForm::Declaration {
         scalar,
         name,
@@ -95,8 +95,7 @@ pub fn optional_size(
     if !next_is(tokens, at, Terminal::LeftBracket) {
         return Ok((None, at));
     }
-    let (size, at) = size(alloc, tokens, levels, at)?;
-    Ok((Some(size), at))
+    present(size(alloc, tokens, levels, at))
 }
 
 /// `Name [ "[" expr "]" ]`
@@ -124,8 +123,8 @@ pub fn bit_register(
     ensures { Says (read_bit_register tokens.now levels at) result }
 {
     let at = exactly(tokens, at, Terminal::Creg)?;
-    let (parts, at) = name_and_size(alloc, tokens, levels, at)?;
-    let ((name, size), at) = with_semicolon(tokens, parts, at)?;
+    let parts = name_and_size(alloc, tokens, levels, at);
+    let ((name, size), at) = closed(tokens, parts, Terminal::Semicolon)?;
     Ok((StatementForm::BitRegister { name, size }, at))
 }
 
@@ -182,8 +181,8 @@ pub fn constant(
 ) -> Result<(StatementForm, usize), Refusal>
     ensures { Says (read_constant tokens.now levels at) result }
 {
-    let (parts, at) = typed_constant(alloc, tokens, levels, at)?;
-    let ((scalar, (name, value)), at) = with_semicolon(tokens, parts, at)?;
+    let parts = typed_constant(alloc, tokens, levels, at);
+    let ((scalar, (name, value)), at) = closed(tokens, parts, Terminal::Semicolon)?;
     let form = StatementForm::Constant {
         scalar,
         name,
@@ -231,7 +230,7 @@ pub fn alias(
     ensures { Says (read_alias tokens.now levels at) result }
 {
     let at = exactly(tokens, at, Terminal::Let)?;
-    let (parts, at) = named_operands(alloc, tokens, levels, at)?;
-    let ((name, parts), at) = with_semicolon(tokens, parts, at)?;
+    let parts = named_operands(alloc, tokens, levels, at);
+    let ((name, parts), at) = closed(tokens, parts, Terminal::Semicolon)?;
     Ok((StatementForm::Alias { name, parts }, at))
 }

@@ -14,6 +14,5 @@ mod assignments;
 pub mod calls;
 pub mod declarations;
 mod operands;
-mod semicolon;
 pub mod statements;
 pub mod values;

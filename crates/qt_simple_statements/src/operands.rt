@@ -10,10 +10,11 @@ ghost use Rattle.qt_simple_statements.specs.Parser.{read_operand, read_operands,
 
 use qt_expr::expression::{all_indexes, expression, index};
 use qt_expr::grown::{appended, begun};
+use qt_expr::handed_on::{closed, present};
 use qt_expr::names::label;
 use qt_grammar::refusal::Refusal;
 use qt_lookahead::one_token::{behind, exactly, next_is};
-use qt_lookahead::pieces::{ended, paired};
+use qt_lookahead::pieces::paired;
 use qt_terminals::stream::TokenStream;
 use qt_terminals::terminal::Terminal;
 use qt_tree::expression::Index;
@@ -32,8 +33,8 @@ fn index_in_brackets(
     ensures { Says (read_index_in_brackets tokens.now levels at) result }
 {
     let at = exactly(tokens, at, Terminal::LeftBracket)?;
-    let (index, at) = index(alloc, tokens, levels, at)?;
-    ended(tokens, index, at, Terminal::RightBracket)
+    let index = index(alloc, tokens, levels, at);
+    closed(tokens, index, Terminal::RightBracket)
 }
 
 /// `[ "[" index "]" ]`
@@ -49,8 +50,7 @@ fn optional_index(
     if !next_is(tokens, at, Terminal::LeftBracket) {
         return Ok((None, at));
     }
-    let (index, at) = index_in_brackets(alloc, tokens, levels, at)?;
-    Ok((Some(index), at))
+    present(index_in_brackets(alloc, tokens, levels, at))
 }
 
 /// `operand = Name [ "[" index "]" ]`

@@ -3,23 +3,22 @@
 ghost use Rattle.std.specs.Prelude.{◌≡◌, ◌<◌};
 ghost use Rattle.qt_terminals.specs.Alphabet as alphabet;
 ghost use Rattle.qt_terminals.specs.Terminals.{stream};
-ghost use Rattle.qt_terminals.specs.declared.terminal.Terminal.TheVariants as w;
-ghost use Rattle.qt_tree.specs.declared.statement.StatementForm.TheVariants as s;
 ghost use Rattle.qt_grammar.specs.Outcome.{Says};
-ghost use Rattle.qt_lookahead.specs.OneToken.{Steps};
-ghost use Rattle.qt_simple_statements.specs.Parser.{BeginsNoBody, read_statement_form, read_by_name, read_declaration, read_bit_register, read_constant, read_alias, read_gate_statement, read_unnamed_call, read_measured_to, read_measurement, read_reset, read_barrier, read_keyword, read_keyword_alone, read_return, read_optional_right};
+ghost use Rattle.qt_lookahead.specs.OneToken.{Ends};
+ghost use Rattle.qt_simple_statements.specs.Parser.{BeginsNoBody, read_statement_form, read_by_name, read_declaration, read_bit_register, read_constant, read_alias, read_gate_statement, read_unnamed_call, read_measured_to, read_stored_measurement, read_measurement, read_reset, read_barrier, read_keyword, read_return, read_optional_right};
 
 use crate::assignments::by_name;
 use crate::calls::{modified_call, phase_call};
 use crate::declarations::{alias, bit_register, constant, declaration};
 use crate::operands::{any_operands, measured, operand, right, target};
+use qt_expr::handed_on::{closed, present};
 use qt_grammar::refusal::Refusal;
 use qt_lookahead::begins::{begins_modifier, begins_right};
 use qt_lookahead::one_token::{exactly, next_is};
-use qt_lookahead::pieces::{paired, with_semicolon};
+use qt_lookahead::pieces::{ended, paired};
 use qt_terminals::stream::TokenStream;
 use qt_terminals::terminal::Terminal;
-use qt_tree::statement::{GateCall, Right, StatementForm, Target};
+use qt_tree::statement::{GateCall, Operand, Right, StatementForm, Target};
 use std::alloc::Global;
 
 /// A gate call that doesn't begin with a name: one with modifiers, or of `gphase`.
@@ -49,8 +48,8 @@ fn gate_statement(
 ) -> Result<(StatementForm, usize), Refusal>
     ensures { Says (read_gate_statement tokens.now levels at) result }
 {
-    let (call, at) = unnamed_call(alloc, tokens, levels, at)?;
-    let (call, at) = with_semicolon(tokens, call, at)?;
+    let call = unnamed_call(alloc, tokens, levels, at);
+    let (call, at) = closed(tokens, call, Terminal::Semicolon)?;
     Ok((StatementForm::Gate { call }, at))
 }
 
@@ -68,12 +67,25 @@ fn measured_to(
         return Ok((None, at));
     }
     let at = exactly(tokens, at, Terminal::Arrow)?;
-    let (target, at) = target(alloc, tokens, levels, at)?;
-    Ok((Some(target), at))
+    present(target(alloc, tokens, levels, at))
+}
+
+/// `"measure" operand [ "->" target ]`
+#[tactic(auto, unfolding(crate::specs::Parser::read_stored_measurement, crate::specs::Parser::read_measured, crate::specs::Parser::read_measured_to))]
+fn stored_measurement(
+    alloc: Global,
+    tokens: &TokenStream<'_>,
+    levels: usize,
+    at: usize,
+) -> Result<((Operand, Option<Target>), usize), Refusal>
+    ensures { Says (read_stored_measurement tokens.now levels at) result }
+{
+    let (qubits, at) = measured(alloc, tokens, levels, at)?;
+    paired(qubits, measured_to(alloc, tokens, levels, at))
 }
 
 /// `"measure" operand [ "->" target ] ";"`
-#[tactic(auto, unfolding(crate::specs::Parser::read_measurement, crate::specs::Parser::read_measured, crate::specs::Parser::read_measured_to, qt_lookahead::specs::OneToken::read_exactly))]
+#[tactic(auto, unfolding(crate::specs::Parser::read_measurement, crate::specs::Parser::read_stored_measurement, qt_lookahead::specs::OneToken::read_exactly))]
 fn measurement(
     alloc: Global,
     tokens: &TokenStream<'_>,
@@ -82,9 +94,8 @@ fn measurement(
 ) -> Result<(StatementForm, usize), Refusal>
     ensures { Says (read_measurement tokens.now levels at) result }
 {
-    let (qubits, at) = measured(alloc, tokens, levels, at)?;
-    let (parts, at) = paired(qubits, measured_to(alloc, tokens, levels, at))?;
-    let ((qubits, target), at) = with_semicolon(tokens, parts, at)?;
+    let parts = stored_measurement(alloc, tokens, levels, at);
+    let ((qubits, target), at) = closed(tokens, parts, Terminal::Semicolon)?;
     Ok((StatementForm::Measure { qubits, target }, at))
 }
 
@@ -99,8 +110,8 @@ fn reset(
     ensures { Says (read_reset tokens.now levels at) result }
 {
     let at = exactly(tokens, at, Terminal::Reset)?;
-    let (qubits, at) = operand(alloc, tokens, levels, at)?;
-    let (qubits, at) = with_semicolon(tokens, qubits, at)?;
+    let qubits = operand(alloc, tokens, levels, at);
+    let (qubits, at) = closed(tokens, qubits, Terminal::Semicolon)?;
     Ok((StatementForm::Reset { qubits }, at))
 }
 
@@ -115,8 +126,8 @@ fn barrier(
     ensures { Says (read_barrier tokens.now levels at) result }
 {
     let at = exactly(tokens, at, Terminal::Barrier)?;
-    let (qubits, at) = any_operands(alloc, tokens, levels, at)?;
-    let (qubits, at) = with_semicolon(tokens, qubits, at)?;
+    let qubits = any_operands(alloc, tokens, levels, at);
+    let (qubits, at) = closed(tokens, qubits, Terminal::Semicolon)?;
     Ok((StatementForm::Barrier { qubits }, at))
 }
 
@@ -133,8 +144,7 @@ fn optional_right(
     if !begins_right(tokens, at) {
         return Ok((None, at));
     }
-    let (value, at) = right(alloc, tokens, levels, at)?;
-    Ok((Some(value), at))
+    present(right(alloc, tokens, levels, at))
 }
 
 /// `"return" [ right ] ";"`
@@ -148,49 +158,24 @@ fn return_statement(
     ensures { Says (read_return tokens.now levels at) result }
 {
     let at = exactly(tokens, at, Terminal::Return)?;
-    let (value, at) = optional_right(alloc, tokens, levels, at)?;
-    let (value, at) = with_semicolon(tokens, value, at)?;
+    let value = optional_right(alloc, tokens, levels, at);
+    let (value, at) = closed(tokens, value, Terminal::Semicolon)?;
     Ok((StatementForm::Return { value }, at))
 }
 
-/// A keyword and its semicolon, of which the place behind is answered.
+/// The statement that a keyword alone makes, and the place behind its semicolon.
 #[tactic(auto, unfolding(crate::specs::Parser::read_keyword, qt_lookahead::specs::OneToken::read_exactly))]
-fn keyword_alone(tokens: &TokenStream<'_>, at: usize, keyword: Terminal) -> Result<usize, Refusal>
-    requires { 0 < alphabet.code keyword }
-    ensures { Steps (read_keyword tokens.now keyword at) (stream tokens.now at) result }
-{
-    let at = exactly(tokens, at, keyword)?;
-    exactly(tokens, at, Terminal::Semicolon)
-}
-
-/// `"break" ";"`
-#[tactic(auto, unfolding(crate::specs::Parser::read_keyword_alone, crate::specs::Parser::read_keyword))]
-fn break_statement(tokens: &TokenStream<'_>, at: usize) -> Result<(StatementForm, usize), Refusal>
-    ensures { Says (read_keyword_alone tokens.now w.Break s.Break at) result }
-{
-    let at = keyword_alone(tokens, at, Terminal::Break)?;
-    Ok((StatementForm::Break, at))
-}
-
-/// `"continue" ";"`
-#[tactic(auto, unfolding(crate::specs::Parser::read_keyword_alone, crate::specs::Parser::read_keyword))]
-fn continue_statement(
+fn keyword_alone<T: Drop>(
     tokens: &TokenStream<'_>,
     at: usize,
-) -> Result<(StatementForm, usize), Refusal>
-    ensures { Says (read_keyword_alone tokens.now w.Continue s.Continue at) result }
+    keyword: Terminal,
+    statement: T,
+) -> Result<(T, usize), Refusal>
+    requires { 0 < alphabet.code keyword }
+    ensures { Ends (read_keyword tokens.now keyword at) (stream tokens.now at) statement result }
 {
-    let at = keyword_alone(tokens, at, Terminal::Continue)?;
-    Ok((StatementForm::Continue, at))
-}
-
-/// `"end" ";"`
-#[tactic(auto, unfolding(crate::specs::Parser::read_keyword_alone, crate::specs::Parser::read_keyword))]
-fn end_statement(tokens: &TokenStream<'_>, at: usize) -> Result<(StatementForm, usize), Refusal>
-    ensures { Says (read_keyword_alone tokens.now w.EndWord s.End at) result }
-{
-    let at = keyword_alone(tokens, at, Terminal::EndWord)?;
-    Ok((StatementForm::End, at))
+    let at = exactly(tokens, at, keyword)?;
+    ended(tokens, statement, at, Terminal::Semicolon)
 }
 
 /// A statement that has no body, but for its place.
@@ -215,9 +200,14 @@ pub fn form_without_body(
         Terminal::Measure => measurement(alloc, tokens, levels, at),
         Terminal::Reset => reset(alloc, tokens, levels, at),
         Terminal::Barrier => barrier(alloc, tokens, levels, at),
-        Terminal::Break => break_statement(tokens, at),
-        Terminal::Continue => continue_statement(tokens, at),
+        Terminal::Break => keyword_alone(tokens, at, Terminal::Break, StatementForm::Break),
+        Terminal::Continue => keyword_alone(
+            tokens,
+            at,
+            Terminal::Continue,
+            StatementForm::Continue,
+        ),
         Terminal::Return => return_statement(alloc, tokens, levels, at),
-        _ => end_statement(tokens, at),
+        _ => keyword_alone(tokens, at, Terminal::EndWord, StatementForm::End),
     }
 }

@@ -4,10 +4,10 @@ ghost use Rattle.qt_grammar.specs.Outcome.{Says};
 ghost use Rattle.qt_simple_statements.specs.Parser.{read_sequence, read_range_in_brackets, read_values};
 
 use qt_expr::expression::{range, set};
+use qt_expr::handed_on::closed;
 use qt_expr::names::label;
 use qt_grammar::refusal::Refusal;
 use qt_lookahead::one_token::{exactly, next_is};
-use qt_lookahead::pieces::ended;
 use qt_terminals::stream::TokenStream;
 use qt_terminals::terminal::Terminal;
 use qt_tree::expression::Range;
@@ -25,8 +25,8 @@ fn range_in_brackets(
     ensures { Says (read_range_in_brackets tokens.now levels at) result }
 {
     let at = exactly(tokens, at, Terminal::LeftBracket)?;
-    let (range, at) = range(alloc, tokens, levels, at)?;
-    ended(tokens, range, at, Terminal::RightBracket)
+    let range = range(alloc, tokens, levels, at);
+    closed(tokens, range, Terminal::RightBracket)
 }
 
 /// `"[" range "]" | "{" exprs "}" | Name`
