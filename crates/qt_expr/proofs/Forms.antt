@@ -1,5 +1,5 @@
 -- The forms of expressions by their alternatives: the next terminal decides which of them is read.
-use Rattle.std.proofs.Common.{◌≡◌, ℕ, ◌+◌, ◌%◌, ◌^◌, ◌⊎◌, inl, inr, List, [], ◌∷◌, ◌++◌, Bool, true, false, Option, None, Ok, Err, ◌∙◌, refl, sym}
+use Rattle.std.proofs.Common.{◌≡◌, ℕ, ◌+◌, ◌%◌, ◌^◌, ◌⊎◌, inl, inr, List, [], ◌∷◌, ◌++◌, Bool, true, false, if◌then◌else◌, Option, Some, None, Ok, Err, ◌∙◌, refl, sym}
 use Rattle.qt_tree.specs.declared.expression.Expr.{Expr}
 use Rattle.qt_tree.specs.declared.expression.Expr.TheVariants as expression
 use Rattle.qt_tree.specs.declared.expression.Scalar.TheVariants as scalar_type
@@ -14,10 +14,11 @@ use Rattle.qt_terminals.specs.Terminals.{PlacedTerminal, stream}
 use Rattle.qt_grammar.specs.Sorts.{token, scalar, expr, index, range_tail, several, optional}
 use Rattle.qt_grammar.specs.Form.{Form, as_tree, then_, maybe, member, terminal_at}
 use Rattle.qt_grammar.specs.Lookahead.{first}
+use Rattle.qt_grammar.specs.declared.refusal.Refusal.{Refusal}
 use Rattle.qt_grammar.specs.declared.refusal.Refusal.TheVariants.{Syntax}
 use Rattle.qt_grammar.specs.Outcome.{Outcome, and_then}
 use Rattle.qt_grammar.specs.Language as g
-use Rattle.qt_expr.specs.Parser.{reading, read_scalar, read_sized, read_primary, read_literal, read_parenthesized, read_name, read_cast, read_size_of, read_index_form, read_set, read_behind_start, read_place_or_range}
+use Rattle.qt_expr.specs.Parser.{reading, read_scalar, read_sized, read_primary, read_literal, read_parenthesized, read_name, read_cast, read_size_of, read_index_form, read_expression, read_set, read_behind_start, read_place_or_range}
 use Rattle.qt_expr.specs.HandedOn.{sized_scalar}
 use Rattle.qt_expr.proofs.Alternatives.{DiffersFrom, none_of, alternative, last_alternative, nth, before, or_last, in_neither, in_both, taken}
 use Rattle.qt_expr.proofs.HandedOn.{led_by}
@@ -62,6 +63,28 @@ from_nothing : (out : Outcome (Option Expr → Range)) → and_then {A = Option 
     ≡ and_then {A = Range} {B = Index} (and_then {A = Option Expr → Range} {B = Range} out (λ tail j. Ok (tail None, j))) (λ r j. Ok (ix.Range r, j))
 from_nothing (Ok p) = refl
 from_nothing (Err e) = refl
+
+-- an expression, and the rest of a range where one begins
+module _ (place : Outcome Expr) (begins : ℕ → Bool) (tail : ℕ → Outcome (Option Expr → Range)) where
+  abbrev placed : Outcome Index
+  placed = and_then {A = Expr} {B = Index} place (λ x m. and_then {A = Option (Option Expr → Range)} {B = Index}
+      (if begins m then and_then {A = Option Expr → Range} {B = Option (Option Expr → Range)} (tail m) (λ y j. Ok (Some y, j)) else Ok (None, m)) (λ y j. Ok (g.place_or_range x y, j)))
+
+  nowhere : (why : Refusal) → place ≡ Err why → placed ≡ Err why
+  nowhere why h = rw h refl
+
+  alone : (x : Expr) (m : ℕ) → place ≡ Ok (x, m) → begins m ≡ false → placed ≡ Ok (ix.At x, m)
+  alone x m h e = rw (h, e) refl
+
+  from_place : (x : Expr) (m : ℕ) → place ≡ Ok (x, m) → begins m ≡ true
+      → placed ≡ and_then {A = Range} {B = Index} (and_then {A = Option Expr → Range} {B = Range} (tail m) (λ y j. Ok (y (Some x), j))) (λ r j. Ok (ix.Range r, j))
+  from_place x m h e = rw (h, e) (tidy (tail m))
+    where
+      tidy : (out : Outcome (Option Expr → Range))
+          → and_then {A = Option (Option Expr → Range)} {B = Index} (and_then {A = Option Expr → Range} {B = Option (Option Expr → Range)} out (λ y j. Ok (Some y, j))) (λ y j. Ok (g.place_or_range x y, j))
+          ≡ and_then {A = Range} {B = Index} (and_then {A = Option Expr → Range} {B = Range} out (λ y j. Ok (y (Some x), j))) (λ r j. Ok (ix.Range r, j))
+      tidy (Ok p) = refl
+      tidy (Err e) = refl
 
 module _ (tokens : List PlacedTerminal) (d : ℕ) (outer : Option ℕ) (at : ℕ) where
   next_among : (k : Terminal) (ks : List ℕ) → (stream tokens at).terminal ≡ k → member (code k) ks ≡ true → member (terminal_at (stream tokens) at) ks ≡ true
@@ -163,3 +186,18 @@ module _ (tokens : List PlacedTerminal) (d : ℕ) (outer : Option ℕ) (at : ℕ
   pub place_or_range_is : DiffersFrom ((stream tokens at).terminal) (w.LeftBrace ∷ w.Colon ∷ []) → read_index_form tokens d outer at ≡ read_place_or_range tokens d outer at
   unfolding read_index_form read_place_or_range
   place_or_range_is apart = last_alternative tokens d outer at {s = index} indexes_but_last last_index (none_of ((stream tokens at).terminal) (w.LeftBrace ∷ w.Colon ∷ []) apart)
+
+  -- ---- an expression, or a range that has a start
+
+  pub no_place : (why : Refusal) → read_expression tokens d outer at ≡ Err why → read_place_or_range tokens d outer at ≡ Err why
+  unfolding read_expression read_place_or_range
+  no_place why h = nowhere (reading tokens d g.expression outer at) (λ m. member (terminal_at (stream tokens) m) (code w.Colon ∷ [])) (λ m. reading tokens d g.behind_start outer m) why h
+
+  pub place_is : (x : Expr) (m : ℕ) → read_expression tokens d outer at ≡ Ok (x, m) → member (terminal_at (stream tokens) m) (code w.Colon ∷ []) ≡ false → read_place_or_range tokens d outer at ≡ Ok (ix.At x, m)
+  unfolding read_expression read_place_or_range
+  place_is x m h e = alone (reading tokens d g.expression outer at) (λ m. member (terminal_at (stream tokens) m) (code w.Colon ∷ [])) (λ m. reading tokens d g.behind_start outer m) x m h e
+
+  pub range_from : (x : Expr) (m : ℕ) → read_expression tokens d outer at ≡ Ok (x, m) → member (terminal_at (stream tokens) m) (code w.Colon ∷ []) ≡ true
+      → read_place_or_range tokens d outer at ≡ and_then (read_behind_start tokens d outer (Some x) m) (λ r j. Ok (ix.Range r, j))
+  unfolding read_expression read_place_or_range read_behind_start
+  range_from x m h e = from_place (reading tokens d g.expression outer at) (λ m. member (terminal_at (stream tokens) m) (code w.Colon ∷ [])) (λ m. reading tokens d g.behind_start outer m) x m h e

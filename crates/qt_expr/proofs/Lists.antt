@@ -5,12 +5,12 @@ use Rattle.qt_tree.specs.declared.expression.Index.{Index}
 use Rattle.qt_terminals.specs.declared.terminal.Terminal.TheVariants as w
 use Rattle.qt_terminals.specs.Alphabet.{code}
 use Rattle.qt_terminals.specs.Terminals.{PlacedTerminal, stream}
-use Rattle.qt_grammar.specs.Sorts.{label, expr, index, several, any, an_index}
+use Rattle.qt_grammar.specs.Sorts.{label, expr, index, several, an_index}
 use Rattle.qt_grammar.specs.Form.{member, terminal_at, named}
 use Rattle.qt_grammar.specs.Lookahead.{first}
 use Rattle.qt_grammar.specs.Outcome.{and_then}
 use Rattle.qt_grammar.specs.Language.{a_label, expression, indexes}
-use Rattle.qt_expr.specs.Parser.{rest_separated, rest_some, read_label, read_names, read_expression, read_expressions, read_any, read_list, read_index, read_index_list, read_indexes, read_all_indexes}
+use Rattle.qt_expr.specs.Parser.{rest_separated, rest_some, read_label, read_names, read_expression, read_expressions, read_index, read_index_list, read_indexes, read_all_indexes}
 use Rattle.qt_expr.proofs.Loops.{separated_is, separated_goes_on, some_is, some_goes_on}
 
 module _ (tokens : List PlacedTerminal) where
@@ -32,15 +32,6 @@ module _ (tokens : List PlacedTerminal) (levels : ℕ) (outer : Option ℕ) wher
       → rest_separated tokens {s = expr} w.Comma expression levels outer (n - turn) all at ≡ and_then (read_expression tokens levels outer (at + 1)) (λ x m. rest_separated tokens {s = expr} w.Comma expression levels outer (n - (turn + 1)) (all ++ x ∷ []) m)
   unfolding read_expression
   expressions_go_on n turn all at more e = separated_goes_on tokens {s = expr} expression levels outer w.Comma n turn all at more e
-
-  pub list_is : (at : ℕ) → read_list tokens levels outer at ≡ and_then (read_any tokens levels outer at) (λ x m. rest_separated tokens {s = expr} w.Comma (named any) levels outer (length tokens) (x ∷ []) m)
-  unfolding read_list read_any
-  list_is at = separated_is tokens {s = expr} (named any) levels outer w.Comma at
-
-  pub list_goes_on : (n turn : ℕ) (all : List Expr) (at : ℕ) → turn < n → member (terminal_at (stream tokens) at) (code w.Comma ∷ []) ≡ true
-      → rest_separated tokens {s = expr} w.Comma (named any) levels outer (n - turn) all at ≡ and_then (read_any tokens levels outer (at + 1)) (λ x m. rest_separated tokens {s = expr} w.Comma (named any) levels outer (n - (turn + 1)) (all ++ x ∷ []) m)
-  unfolding read_any
-  list_goes_on n turn all at more e = separated_goes_on tokens {s = expr} (named any) levels outer w.Comma n turn all at more e
 
   pub index_list_is : (at : ℕ) → read_index_list tokens levels outer at ≡ and_then (read_index tokens levels outer at) (λ x m. rest_separated tokens {s = index} w.Comma (named an_index) levels outer (length tokens) (x ∷ []) m)
   unfolding read_index_list read_index

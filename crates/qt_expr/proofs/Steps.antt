@@ -1,5 +1,5 @@
 -- One step of the functions that read expressions.
-use Rattle.std.proofs.Common.{◌≡◌, ◌≢◌, ℕ, zero, suc, ◌+◌, ◌-◌, ◌<◌, ◌≤◌, List, [], ◌∷◌, length, Bool, true, false, cond, Option, Some, Ok, Err, ap, ◌∙◌, refl, arith}
+use Rattle.std.proofs.Common.{◌≡◌, ◌≢◌, ℕ, zero, suc, ◌+◌, ◌-◌, ◌<◌, ◌≤◌, List, [], ◌∷◌, length, Bool, true, false, cond, Option, Some, Ok, Err, ap, ◌∙◌, refl, sym, arith}
 use Rattle.qt_tree.specs.declared.expression.Expr.{Expr}
 use Rattle.qt_terminals.specs.declared.terminal.Terminal.TheVariants as w
 use Rattle.qt_terminals.specs.Alphabet.{code}
@@ -12,7 +12,7 @@ use Rattle.qt_grammar.specs.Outcome.{Outcome, and_then}
 use Rattle.qt_tree.specs.declared.expression.Expr.TheVariants as tree
 use Rattle.qt_tree.specs.declared.expression.InfixOperator.TheVariants as op
 use Rattle.qt_grammar.specs.Language.{◌⊳◌, ops_at, joined, powered, signed, exactly_operator, primary, power, negated}
-use Rattle.qt_expr.specs.Parser.{reading, named_to, rest_separated, read_any, read_unary, read_expression, read_operation, read_more_operands, read_power, read_primary, read_factor, read_range, read_range_form, read_index, read_index_form, read_in_size_of, read_dimension, read_members, read_list}
+use Rattle.qt_expr.specs.Parser.{reading, named_to, rest_separated, read_any, read_unary, read_expression, read_operation, read_more_operands, read_power, read_primary, read_factor, read_range, read_range_form, read_index, read_index_form, read_in_size_of, read_dimension, read_members, read_list, read_expressions}
 
 -- the terminals of unary operators
 abbrev pub signs : List ℕ
@@ -55,6 +55,22 @@ members_are tokens zero outer at = at_none (member (terminal_at (stream tokens) 
     at_none true = refl
     at_none false = refl
 members_are tokens (suc d) outer at = refl
+
+-- so at a level the expressions of a list stand below it, and at none the first is too deep
+module _ (tokens : List PlacedTerminal) (d : ℕ) (outer : Option ℕ) (at : ℕ) where
+  members_below : d ≢ 0 → read_members tokens d outer at ≡ read_expressions tokens (d - 1) outer at
+  unfolding read_members read_expressions
+  members_below some = deeper (λ n. read_members tokens n outer at) d some
+
+  pub list_below : d ≢ 0 → read_list tokens d outer at ≡ read_expressions tokens (d - 1) outer at
+  list_below some = sym (members_are tokens d outer at) ∙ members_below some
+
+  no_members : read_members tokens 0 outer at ≡ cond (member (terminal_at (stream tokens) at) (first_of a_set)) (Err (Nest at)) (Err (Syntax at))
+  unfolding read_members
+  no_members = refl
+
+  pub no_list : d ≡ 0 → read_list tokens d outer at ≡ cond (member (terminal_at (stream tokens) at) (first_of a_set)) (Err (Nest at)) (Err (Syntax at))
+  no_list none = sym (members_are tokens d outer at) ∙ rw none no_members
 
 -- ---- operators
 

@@ -158,7 +158,6 @@ impl<
     }
 
     /// An expression, or a range with a start.
-    #[tactic(auto, unfolding(crate::specs::Parser::read_place_or_range, crate::specs::Parser::read_behind_start, crate::specs::Parser::read_expression))]
     pub fn place_or_range(
         &self,
         tokens: &TokenStream<'_>,

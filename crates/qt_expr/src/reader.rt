@@ -2,8 +2,6 @@
 
 ghost use Rattle.std.specs.Prelude.{◌≡◌, ◌+◌, ◌≤◌, length, None, Some};
 ghost use Rattle.qt_terminals.specs.declared.terminal.Terminal.TheVariants as w;
-ghost use Rattle.qt_grammar.specs.Form as form;
-ghost use Rattle.qt_grammar.specs.Sorts as sorts;
 ghost use Rattle.qt_grammar.specs.Language as language;
 ghost use Rattle.qt_grammar.specs.Outcome.{Says};
 ghost use Rattle.qt_expr.specs.Nested.{Nests};
@@ -175,7 +173,6 @@ impl<
     }
 
     /// Expressions with commas between, each one level deeper, at least one.
-    #[tactic(auto, using(crate::proofs::Lists::list_is))]
     pub fn list(
         &self,
         tokens: &TokenStream<'_>,
@@ -185,31 +182,10 @@ impl<
         requires { Nests nesting.levels (F.pre self.now.operation) (F.post self.now.operation) }
         ensures { Says (read_list tokens.now nesting.levels nesting.outer at) result }
     {
-        let (all, at) = begun(self.alloc, self.any(tokens, nesting, at))?;
-        self.more_of_list(tokens, nesting, at, all)
-    }
-
-    /// What stands behind the first of them.
-    #[tactic(auto, using(crate::proofs::Loops::separated_ends, crate::proofs::Loops::separated_stops, crate::proofs::Lists::list_goes_on))]
-    fn more_of_list(
-        &self,
-        tokens: &TokenStream<'_>,
-        nesting: Nesting,
-        at: usize,
-        all: Items<Expr>,
-    ) -> Result<(Items<Expr>, usize), Refusal>
-        requires { Nests nesting.levels (F.pre self.now.operation) (F.post self.now.operation) }
-        ensures { Says (rest_separated tokens.now w.Comma (form.named sorts.any) nesting.levels nesting.outer (length tokens.now) all at) result }
-    {
-        let mut all = all;
-        let mut at = at;
-        'turn: for turn in 0..tokens.len() {
-            if !next_is(tokens, at, Terminal::Comma) {
-                return Ok((all, at));
-            }
-            at = appended(&mut all, self.any(tokens, nesting, behind(tokens, at)))?;
+        if nesting.levels == 0 {
+            return Err(too_deep(at, begins_expression(tokens.terminal(at))));
         }
-        Ok((all, at))
+        self.expressions(tokens, nesting.below(), at)
     }
 
     /// A list, or nothing for the empty one.
