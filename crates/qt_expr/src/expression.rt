@@ -35,7 +35,6 @@ fn operation(
 }
 
 /// What stands behind the first operand, with operators of this strength between.
-#[tactic(auto, using(crate::proofs::Steps::more_end, crate::proofs::Steps::more_stop, crate::proofs::Steps::more_go_on, crate::proofs::Steps::more_refuse))]
 #[cycle(operation)]
 fn more_operands(
     alloc: Global,

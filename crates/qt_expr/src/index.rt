@@ -231,7 +231,6 @@ impl<
     }
 
     /// What stands behind the first of them.
-    #[tactic(auto, using(crate::proofs::Loops::separated_ends, crate::proofs::Loops::separated_stops, crate::proofs::Lists::index_list_goes_on))]
     fn more_of_index_list(
         &self,
         tokens: &TokenStream<'_>,
@@ -288,7 +287,6 @@ impl<
     }
 
     /// What stands behind the first of them.
-    #[tactic(auto, using(crate::proofs::Loops::some_ends, crate::proofs::Loops::some_stops, crate::proofs::Lists::all_indexes_go_on))]
     fn more_of_all_indexes(
         &self,
         tokens: &TokenStream<'_>,

@@ -39,7 +39,6 @@ pub fn names(
 }
 
 /// What stands behind the first of them.
-#[tactic(auto, using(crate::proofs::Loops::separated_ends, crate::proofs::Loops::separated_stops, crate::proofs::Lists::names_go_on))]
 fn more_names(
     alloc: Global,
     tokens: &TokenStream<'_>,

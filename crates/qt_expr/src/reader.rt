@@ -79,7 +79,6 @@ impl<
     }
 
     /// What stands behind the first of them.
-    #[tactic(auto, using(crate::proofs::Loops::separated_ends, crate::proofs::Loops::separated_stops, crate::proofs::Lists::expressions_go_on))]
     fn more_expressions(
         &self,
         tokens: &TokenStream<'_>,

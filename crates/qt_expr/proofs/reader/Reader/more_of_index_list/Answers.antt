@@ -1,0 +1,35 @@
+use Rattle.std.proofs.Common.{◌≡◌, ◌-◌, ◌∙◌, [], ◌∷◌, true, false, rules, arith}
+use Rattle.std.proofs.lemmas.Grind.{common_steps}
+use Rattle.qt_terminals.specs.declared.terminal.Terminal.TheVariants as w
+use Rattle.qt_terminals.specs.Alphabet.{code}
+use Rattle.qt_terminals.specs.Terminals.{stream}
+use Rattle.qt_grammar.specs.Sorts.{index, an_index}
+use Rattle.qt_grammar.specs.Form.{member, terminal_at, named}
+use Rattle.qt_expr.proofs.Loops.{separated_ends, separated_stops}
+use Rattle.qt_expr.proofs.Lists.{index_list_goes_on}
+use Rattle.qt_expr.proofs.reader.Reader.more_of_index_list.Goals as goal
+
+pub returns : goal.returns
+returns g c =
+    let ts = c.args.tokens.now in
+    c.turn.invariant ∙ separated_ends ts {s = index} (named an_index) c.args.nesting.levels c.args.nesting.outer w.Comma c.len-turn-end.result c.turn.turn c.turn.all c.turn.at c.turn-test.false
+
+pub returns-then-not-next_is : goal.returns-then-not-next_is
+returns-then-not-next_is g c =
+    let ts = c.args.tokens.now in
+    let other : member (terminal_at (stream ts) c.turn.at) (code w.Comma ∷ []) ≡ false = first_of (search rules, grind (arith, common_steps)) in
+    c.turn.invariant ∙ separated_stops ts {s = index} (named an_index) c.args.nesting.levels c.args.nesting.outer w.Comma (c.len-turn-end.result - c.turn.turn) c.turn.all c.turn.at other
+
+pub returns-in_err-at : goal.returns-in_err-at
+returns-in_err-at g c =
+    let ts = c.args.tokens.now in
+    let more : member (terminal_at (stream ts) c.turn.at) (code w.Comma ∷ []) ≡ true = first_of (search rules, grind (arith, common_steps)) in
+    let e = c.turn.invariant ∙ index_list_goes_on ts c.args.nesting.levels c.args.nesting.outer c.len-turn-end.result c.turn.turn c.turn.all c.turn.at c.turn-test.true more in
+    first_of (search rules, grind (arith, common_steps))
+
+pub turn-preserved : goal.turn-preserved
+turn-preserved g c =
+    let ts = c.args.tokens.now in
+    let more : member (terminal_at (stream ts) c.turn.at) (code w.Comma ∷ []) ≡ true = first_of (search rules, grind (arith, common_steps)) in
+    let e = c.turn.invariant ∙ index_list_goes_on ts c.args.nesting.levels c.args.nesting.outer c.len-turn-end.result c.turn.turn c.turn.all c.turn.at c.turn-test.true more in
+    first_of (search rules, grind (arith, common_steps))
