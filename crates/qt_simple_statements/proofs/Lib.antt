@@ -1,4 +1,5 @@
 pub mod Choices
 pub mod Lists
+pub mod Modifiers
 pub mod Semicolons
 pub mod Tails

@@ -58,7 +58,6 @@ fn exponent(
 }
 
 /// `modifier = "inv" | "pow" "(" expr ")" | ( "ctrl" | "negctrl" ) [ "(" expr ")" ]`
-#[tactic(auto, unfolding(crate::specs::Parser::read_modifier, crate::specs::Parser::read_exponent, crate::specs::Parser::read_controls))]
 fn modifier(
     alloc: Global,
     tokens: &TokenStream<'_>,
@@ -113,7 +112,6 @@ fn modifiers(
 }
 
 /// The modifiers behind the first.
-#[tactic(auto, using(qt_expr::proofs::Loops::some_ends, qt_expr::proofs::Loops::some_stops, crate::proofs::Lists::modifiers_go_on))]
 fn more_modifiers(
     alloc: Global,
     tokens: &TokenStream<'_>,

@@ -85,7 +85,6 @@ pub fn operands(
 }
 
 /// The operands behind the first.
-#[tactic(auto, using(qt_expr::proofs::Loops::separated_ends, qt_expr::proofs::Loops::separated_stops, crate::proofs::Lists::operands_go_on))]
 fn more_operands(
     alloc: Global,
     tokens: &TokenStream<'_>,
