@@ -16,12 +16,14 @@ use Rattle.qt_grammar.specs.Form.{Form, as_tree, then_, maybe, member, terminal_
 use Rattle.qt_grammar.specs.Lookahead.{first}
 use Rattle.qt_grammar.specs.declared.refusal.Refusal.{Refusal}
 use Rattle.qt_grammar.specs.declared.refusal.Refusal.TheVariants.{Syntax}
-use Rattle.qt_grammar.specs.Outcome.{Outcome, and_then}
+use Rattle.qt_grammar.specs.Outcome.{Outcome, Says, and_then}
+use Rattle.qt_grammar.specs.Language.{◌⊳◌}
 use Rattle.qt_grammar.specs.Language as g
-use Rattle.qt_expr.specs.Parser.{reading, read_scalar, read_sized, read_primary, read_literal, read_parenthesized, read_name, read_cast, read_size_of, read_index_form, read_expression, read_set, read_behind_start, read_place_or_range}
-use Rattle.qt_expr.specs.HandedOn.{sized_scalar}
+use Rattle.qt_lookahead.specs.OneToken.{read_exactly}
+use Rattle.qt_expr.specs.Parser.{reading, read_scalar, read_sized, read_primary, read_literal, read_parenthesized, read_name, read_cast, read_size_of, read_index_form, read_expression, read_expression_or_none, read_last_bound, read_dimension_or_none, read_set, read_behind_start, read_place_or_range}
+use Rattle.qt_expr.specs.HandedOn.{as_some, sized_scalar}
 use Rattle.qt_expr.proofs.Alternatives.{DiffersFrom, none_of, alternative, last_alternative, nth, before, or_last, in_neither, in_both, taken}
-use Rattle.qt_expr.proofs.HandedOn.{led_by}
+use Rattle.qt_expr.proofs.HandedOn.{led_by, led_says, present_says}
 
 -- ---- the scalar types but for the last, `angle`
 
@@ -201,3 +203,15 @@ module _ (tokens : List PlacedTerminal) (d : ℕ) (outer : Option ℕ) (at : ℕ
       → read_place_or_range tokens d outer at ≡ and_then (read_behind_start tokens d outer (Some x) m) (λ r j. Ok (ix.Range r, j))
   unfolding read_expression read_place_or_range read_behind_start
   range_from x m h e = from_place (reading tokens d g.expression outer at) (λ m. member (terminal_at (stream tokens) m) (code w.Colon ∷ [])) (λ m. reading tokens d g.behind_start outer m) x m h e
+
+  -- ---- what may be left out and begins with a token
+
+  pub last_bound_says : (m : ℕ) (found : Outcome (Option Expr)) → member (terminal_at (stream tokens) at) (code w.Colon ∷ []) ≡ true → read_exactly tokens (code w.Colon) at ≡ Ok (stream tokens at, m)
+      → Says (read_expression_or_none tokens d outer m) found → Says (read_last_bound tokens d outer at) (as_some found)
+  unfolding read_last_bound read_expression_or_none
+  last_bound_says m found e opened h = present_says tokens d outer at {s = optional expr} (g.exactly w.Colon ⊳ maybe g.expression) found e (led_says tokens d outer at {s = optional expr} (maybe g.expression) w.Colon m found opened h)
+
+  pub dimension_says : (m : ℕ) (found : Outcome Expr) → member (terminal_at (stream tokens) at) (code w.Comma ∷ []) ≡ true → read_exactly tokens (code w.Comma) at ≡ Ok (stream tokens at, m)
+      → Says (read_expression tokens d outer m) found → Says (read_dimension_or_none tokens d outer at) (as_some found)
+  unfolding read_dimension_or_none read_expression
+  dimension_says m found e opened h = present_says tokens d outer at {s = expr} (g.exactly w.Comma ⊳ g.expression) found e (led_says tokens d outer at {s = expr} g.expression w.Comma m found opened h)

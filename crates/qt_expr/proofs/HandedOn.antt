@@ -1,5 +1,5 @@
 -- What is read is told by what is made of it.
-use Rattle.std.proofs.Common.{◌≡◌, ℕ, ◌+◌, List, [], ◌∷◌, true, Option, Some, Ok, Err, ◌∙◌, refl}
+use Rattle.std.proofs.Common.{◌≡◌, ℕ, ◌+◌, List, [], ◌∷◌, true, Option, Some, Ok, Err, ◌∙◌, refl, sym, subst}
 use Rattle.qt_terminals.specs.declared.terminal.Terminal.{Terminal}
 use Rattle.qt_terminals.specs.Alphabet.{code}
 use Rattle.qt_terminals.specs.Terminals.{PlacedTerminal, stream}
@@ -51,7 +51,15 @@ enclosing : {A C : Type 0} (opened : Outcome C) (inner : ℕ → Outcome A) (clo
 enclosing {A} {C} opened inner closing x m found e h =
     rw (e, same (and_then {A = A} {B = A} (inner m) (λ y n. and_then {A = C} {B = A} (closing n) (λ c j. Ok (y, j))))) (says_then (inner m) found (λ y n. and_then {A = C} {B = A} (closing n) (λ c j. Ok (y, j))) h)
 
+behind : {A C : Type 0} (opened : Outcome C) (inner : ℕ → Outcome A) (x : C) (m : ℕ) → opened ≡ Ok (x, m) → and_then {A = C} {B = A} opened (λ c i. and_then {A = A} {B = A} (inner i) (λ y j. Ok (y, j))) ≡ inner m
+behind {A} {C} opened inner x m e = rw e (same (inner m))
+
 module _ (tokens : List PlacedTerminal) (d : ℕ) (outer : Option ℕ) (at : ℕ) {s : Sort} (f : Form s) where
+  -- a form behind a token
+  pub led_says : (k : Terminal) (m : ℕ) (found : Outcome (Value s)) → read_exactly tokens (code k) at ≡ Ok (stream tokens at, m) → Says (reading tokens d f outer m) found → Says (reading tokens d (exactly k ⊳ f) outer at) found
+  unfolding read_exactly
+  led_says k m found opened h = subst (λ out. Says out found) (sym (behind (reading tokens d (exactly k) outer at) (λ i. reading tokens d f outer i) (stream tokens at) m opened)) h
+
   -- a form between two tokens
   pub enclosed_says : (opener closer : Terminal) (m : ℕ) (found : Outcome (Value s)) → read_exactly tokens (code opener) at ≡ Ok (stream tokens at, m) → Says (reading tokens d f outer m) found
       → Says (reading tokens d (exactly opener ⊳ f ⊲ exactly closer) outer at) (then_token tokens (code closer) found)

@@ -6,7 +6,7 @@ use Rattle.qt_terminals.specs.Alphabet.{code}
 use Rattle.qt_terminals.specs.Terminals.{PlacedTerminal, stream}
 use Rattle.qt_grammar.specs.Sorts.{expr, optional, any, unary, a_set}
 use Rattle.qt_grammar.specs.Form.{Form, member, terminal_at, begun, within, pair_of, named, then_, either, maybe}
-use Rattle.qt_grammar.specs.Lookahead.{first_of}
+use Rattle.qt_grammar.specs.Lookahead.{first, first_of}
 use Rattle.qt_grammar.specs.declared.refusal.Refusal.TheVariants.{Syntax, Nest}
 use Rattle.qt_grammar.specs.Outcome.{Outcome, and_then}
 use Rattle.qt_tree.specs.declared.expression.Expr.TheVariants as tree
@@ -149,6 +149,20 @@ module _ (tokens : List PlacedTerminal) (d : ℕ) (outer : Option ℕ) (at : ℕ
   with_sign : (f : Form expr) → member (terminal_at (stream tokens) at) signs ≡ true → within 256 outer ((stream tokens at).operators) ≡ true
       → reading tokens d (either {s = expr} negated f) outer at ≡ and_then (named_to tokens d unary outer (at + 1)) (λ x j. Ok (signed (stream tokens at) x, j))
   with_sign f h fits = rw (h, fits) refl
+
+  unsigned : (f g : Form expr) → member (terminal_at (stream tokens) at) (first f) ≡ false → reading tokens d (either {s = expr} f g) outer at ≡ reading tokens d g outer at
+  unsigned f g h = rw h refl
+
+  pub unsigned_is : member (terminal_at (stream tokens) at) signs ≡ false → read_factor tokens d outer at ≡ read_power tokens d outer at
+  unfolding read_factor read_power
+  unsigned_is h = unsigned negated power h
+
+  one_sign_too_many : (f : Form expr) → member (terminal_at (stream tokens) at) signs ≡ true → within 256 outer ((stream tokens at).operators) ≡ false → reading tokens d (either {s = expr} negated f) outer at ≡ Err (Nest at)
+  one_sign_too_many f h over = rw (h, over) refl
+
+  pub no_factor : member (terminal_at (stream tokens) at) signs ≡ true → within 256 outer ((stream tokens at).operators) ≡ false → read_factor tokens d outer at ≡ Err (Nest at)
+  unfolding read_factor
+  no_factor h over = one_sign_too_many power h over
 
   pub factor_is : member (terminal_at (stream tokens) at) signs ≡ true → within 256 outer ((stream tokens at).operators) ≡ true
       → read_factor tokens d outer at ≡ and_then (read_unary tokens d outer (at + 1)) (λ x j. Ok (signed (stream tokens at) x, j))

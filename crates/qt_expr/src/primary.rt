@@ -281,7 +281,6 @@ impl<
     }
 
     /// A unary operator with its operand, or a primary with its exponent if there is one.
-    #[tactic(auto, unfolding(crate::specs::Parser::read_factor, crate::specs::Parser::read_power, crate::specs::Parser::read_unary))]
     pub fn factor(
         &self,
         tokens: &TokenStream<'_>,
