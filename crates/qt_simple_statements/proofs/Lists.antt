@@ -1,5 +1,5 @@
 -- The lists of statements without a body, each by its turns.
-use Rattle.std.proofs.Common.{◌≡◌, ℕ, ◌+◌, ◌-◌, ◌<◌, ◌++◌, List, [], ◌∷◌, length, true, None}
+use Rattle.std.proofs.Common.{◌≡◌, ℕ, ◌+◌, ◌-◌, ◌<◌, ◌++◌, List, [], ◌∷◌, true, None}
 use Rattle.qt_tree.specs.declared.statement.Operand.{Operand}
 use Rattle.qt_tree.specs.declared.statement.Modifier.{Modifier}
 use Rattle.qt_terminals.specs.declared.terminal.Terminal.{Terminal}

@@ -1,5 +1,5 @@
 -- Modifiers of gate calls: the next terminal decides which is read.
-use Rattle.std.proofs.Common.{◌≡◌, ℕ, ◌+◌, List, [], ◌∷◌, Option, None, Ok, ◌∙◌, refl}
+use Rattle.std.proofs.Common.{◌≡◌, ℕ, ◌+◌, List, [], ◌∷◌, None, Ok, ◌∙◌, refl}
 use Rattle.qt_tree.specs.declared.statement.Modifier.TheVariants as m
 use Rattle.qt_terminals.specs.declared.terminal.Terminal.TheVariants as w
 use Rattle.qt_terminals.specs.Terminals.{PlacedTerminal, stream}

@@ -1,5 +1,5 @@
 -- Statements that end with a semicolon, of what is read before it.
-use Rattle.std.proofs.Common.{◌≡◌, ℕ, List, None, Result, Ok, Err, refl, sym, ap, subst}
+use Rattle.std.proofs.Common.{◌≡◌, ℕ, List, None, Result, Ok, Err, refl, sym, ap}
 use Rattle.qt_tree.specs.declared.statement.StatementForm.{StatementForm}
 use Rattle.qt_terminals.specs.declared.terminal.Terminal.{Terminal}
 use Rattle.qt_terminals.specs.declared.terminal.Terminal.TheVariants as w
@@ -13,15 +13,8 @@ use Rattle.qt_grammar.specs.Language.{◌⊳◌, exactly, ended}
 use Rattle.qt_lookahead.specs.OneToken.{Ends, read_exactly}
 use Rattle.qt_expr.specs.Parser.{reading}
 use Rattle.qt_expr.specs.HandedOn.{then_token}
-use Rattle.qt_expr.proofs.HandedOn.{says_then, closed_says}
+use Rattle.qt_expr.proofs.HandedOn.{says_then, closed_says, led_says}
 use Rattle.qt_simple_statements.specs.Parser.{read_keyword, read_keyword_alone}
-
-behind : {A C : Type 0} (opened : Outcome C) (inner : ℕ → Outcome A) (x : C) (m : ℕ) → opened ≡ Ok (x, m) → and_then {A = C} {B = A} opened (λ c i. and_then {A = A} {B = A} (inner i) (λ y j. Ok (y, j))) ≡ inner m
-behind {A} {C} opened inner x m e = rw e (same (inner m))
-  where
-    same : (out : Outcome A) → and_then {A = A} {B = A} out (λ y j. Ok (y, j)) ≡ out
-    same (Ok p) = refl
-    same (Err e) = refl
 
 module _ (tokens : List PlacedTerminal) (levels at : ℕ) {s : Sort} (f : Form s) (make : Value s → StatementForm) where
   -- what was read is `found`, and that with its semicolon `finished`
@@ -35,9 +28,8 @@ module _ (tokens : List PlacedTerminal) (levels at : ℕ) {s : Sort} (f : Form s
       → Says (reading tokens levels (as_tree {s = s} {t = form} make (ended (exactly k ⊳ f))) None at) (and_then {A = Value s} {B = StatementForm} finished (λ x j. Ok (make x, j)))
   unfolding read_exactly
   led_statement_says k m found finished opened h e =
-      let read = behind (reading tokens levels (exactly k) None at) (λ i. reading tokens levels f None i) (stream tokens at) m opened in
       rw e (says_then (then_token tokens (code w.Semicolon) (reading tokens levels (exactly k ⊳ f) None at)) (then_token tokens (code w.Semicolon) found) (λ x j. Ok (make x, j))
-      (closed_says tokens (code w.Semicolon) (reading tokens levels (exactly k ⊳ f) None at) found (subst (λ out. Says out found) (sym read) h)))
+          (closed_says tokens (code w.Semicolon) (reading tokens levels (exactly k ⊳ f) None at) found (led_says tokens levels None at f k m found opened h)))
 
 -- a keyword and its semicolon
 pub keyword_says : (tokens : List PlacedTerminal) (k : Terminal) (x : StatementForm) (at : ℕ) (r : Result (StatementForm × ℕ) Refusal) → Ends (read_keyword tokens k at) (stream tokens at) x r → Says (read_keyword_alone tokens k x at) r

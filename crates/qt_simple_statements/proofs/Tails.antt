@@ -1,5 +1,5 @@
 -- Tails: what stands behind a name or a target reads a function of it.
-use Rattle.std.proofs.Common.{◌≡◌, ℕ, ◌+◌, List, [], ◌∷◌, Bool, true, false, if◌then◌else◌, None, Result, Ok, Err, ◌∙◌, refl}
+use Rattle.std.proofs.Common.{◌≡◌, ℕ, ◌+◌, List, [], ◌∷◌, Bool, true, false, if◌then◌else◌, None, Ok, Err, ◌∙◌, refl}
 use Rattle.qt_tree.specs.declared.expression.Expr.{Expr}
 use Rattle.qt_tree.specs.declared.expression.Index.{Index}
 use Rattle.qt_tree.specs.declared.statement.CalledGate.TheVariants as gate
@@ -9,12 +9,10 @@ use Rattle.qt_tree.specs.declared.statement.StatementForm.TheVariants as s
 use Rattle.qt_terminals.specs.declared.terminal.Terminal.TheVariants as w
 use Rattle.qt_terminals.specs.Alphabet.{code}
 use Rattle.qt_terminals.specs.Terminals.{PlacedTerminal, stream}
-use Rattle.qt_grammar.specs.Sorts.{expr, index, operand, form, optional, several, target_tail, statement_tail}
+use Rattle.qt_grammar.specs.Sorts.{expr, index, operand, optional, several, target_tail, statement_tail}
 use Rattle.qt_grammar.specs.Form.{Form, as_tree, then_, maybe, member, terminal_at}
-use Rattle.qt_grammar.specs.Lookahead.{first}
-use Rattle.qt_grammar.specs.declared.refusal.Refusal.{Refusal}
 use Rattle.qt_grammar.specs.declared.refusal.Refusal.TheVariants.{Syntax}
-use Rattle.qt_grammar.specs.Outcome.{Outcome, Says, and_then}
+use Rattle.qt_grammar.specs.Outcome.{Outcome, and_then}
 use Rattle.qt_grammar.specs.Language.{◌⊕◌}
 use Rattle.qt_grammar.specs.Language as g
 use Rattle.qt_lookahead.specs.OneToken.{read_exactly}

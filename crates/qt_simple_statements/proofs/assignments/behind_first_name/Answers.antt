@@ -1,4 +1,4 @@
-use Rattle.std.proofs.Common.{rules, arith, ◌≡◌, ◌∙◌, sym}
+use Rattle.std.proofs.Common.{rules, arith, ◌∙◌, sym}
 use Rattle.std.proofs.lemmas.Grind.{common_steps}
 use Rattle.qt_simple_statements.proofs.Tails.{indexed_is}
 use Rattle.qt_simple_statements.proofs.assignments.behind_first_name.Goals as goal

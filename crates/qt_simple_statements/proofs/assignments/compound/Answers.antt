@@ -1,4 +1,4 @@
-use Rattle.std.proofs.Common.{rules, arith, ◌≡◌}
+use Rattle.std.proofs.Common.{rules, arith}
 use Rattle.std.proofs.lemmas.Grind.{common_steps}
 use Rattle.qt_simple_statements.proofs.Tails.{compound_is}
 use Rattle.qt_simple_statements.proofs.assignments.compound.Goals as goal

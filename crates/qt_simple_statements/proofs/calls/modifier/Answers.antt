@@ -1,4 +1,4 @@
-use Rattle.std.proofs.Common.{◌≡◌, ◌∙◌, [], ◌∷◌, rules, arith, refl, sym, subst}
+use Rattle.std.proofs.Common.{◌∙◌, [], ◌∷◌, rules, arith, refl, sym, subst}
 use Rattle.std.proofs.lemmas.Grind.{common_steps}
 use Rattle.qt_terminals.specs.declared.terminal.Terminal.TheVariants as w
 use Rattle.qt_expr.proofs.Alternatives.{DiffersFrom}

@@ -1,4 +1,4 @@
-use Rattle.std.proofs.Common.{◌≡◌, ◌-◌, ◌∙◌, [], ◌∷◌, true, false, None, rules, arith}
+use Rattle.std.proofs.Common.{◌≡◌, ◌-◌, ◌∙◌, true, false, None, rules, arith}
 use Rattle.std.proofs.lemmas.Grind.{common_steps}
 use Rattle.qt_grammar.specs.Lookahead.{first}
 use Rattle.qt_terminals.specs.Terminals.{stream}

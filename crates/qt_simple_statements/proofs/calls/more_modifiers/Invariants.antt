@@ -1,4 +1,4 @@
-use Rattle.std.proofs.Common.{◌≡◌, ◌+◌, ◌-◌, ◌*◌, None, length}
+use Rattle.std.proofs.Common.{◌≡◌, ◌-◌, None, length}
 use Rattle.qt_grammar.specs.Sorts.{modifier}
 use Rattle.qt_simple_statements.specs.Parser.{modifier_with_at}
 use Rattle.qt_expr.specs.Parser.{rest_some}

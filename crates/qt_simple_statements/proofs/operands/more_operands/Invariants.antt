@@ -1,4 +1,4 @@
-use Rattle.std.proofs.Common.{◌≡◌, ◌+◌, ◌-◌, ◌*◌, None, length}
+use Rattle.std.proofs.Common.{◌≡◌, ◌-◌, None, length}
 use Rattle.qt_grammar.specs.Sorts.{operand}
 use Rattle.qt_grammar.specs.Language as g
 use Rattle.qt_expr.specs.Parser.{rest_separated}
