@@ -7,7 +7,9 @@
 //! grammar's reader of that form answers (`specs/Parser.antt`), outside of expressions and with so many levels that are left. What
 //! is decided on one token stands in `qt_lookahead`.
 //! Inside, the forms that hold expressions take the function that reads operators as a parameter, so that each is proved by itself
-//! and only that function calls itself.
+//! and only that function calls itself. What was read is handed on as it was answered where something follows it ([`handed_on`],
+//! [`grown`]), so that no tree waits where a refusal would have to drop it. The proofs choose a form by the terminal that stands
+//! next (`proofs/Forms.antt`), so that they open the ten strengths of operators in few places.
 #![tactic(auto)]
 
 mod binary;

@@ -29,7 +29,7 @@ module _ (tokens : List PlacedTerminal) (levels at : ℕ) {s : Sort} (f : Form s
   unfolding read_exactly
   led_statement_says k m found finished opened h e =
       rw e (says_then (then_token tokens (code w.Semicolon) (reading tokens levels (exactly k ⊳ f) None at)) (then_token tokens (code w.Semicolon) found) (λ x j. Ok (make x, j))
-          (closed_says tokens (code w.Semicolon) (reading tokens levels (exactly k ⊳ f) None at) found (led_says tokens levels None at f k m found opened h)))
+      (closed_says tokens (code w.Semicolon) (reading tokens levels (exactly k ⊳ f) None at) found (led_says tokens levels None at f k m found opened h)))
 
 -- a keyword and its semicolon
 pub keyword_says : (tokens : List PlacedTerminal) (k : Terminal) (x : StatementForm) (at : ℕ) (r : Result (StatementForm × ℕ) Refusal) → Ends (read_keyword tokens k at) (stream tokens at) x r → Says (read_keyword_alone tokens k x at) r

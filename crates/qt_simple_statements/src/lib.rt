@@ -6,8 +6,8 @@
 //! and [`values`] reads what a `for` runs through. Each function reads one form of the grammar, with one token of lookahead, and answers
 //! what the grammar's reader of that form answers (`specs/Parser.antt`): the tree and the number of the token behind it, or Syntax or Nest
 //! with the number of the token at fault. `levels` is how many levels of nesting are left below the form. No function calls itself;
-//! expressions are read by `qt_expr`. What was read before a form is handed over while that is read (`qt_lookahead::pieces`), so that no
-//! tree waits in a variable where a refusal would have to drop it: that keeps the proofs short.
+//! expressions are read by `qt_expr`. What was read before a form is handed over while that is read (`qt_lookahead::pieces`,
+//! `qt_expr::handed_on`), so that no tree waits in a variable where a refusal would have to drop it: that keeps the proofs short.
 #![tactic(auto)]
 
 mod assignments;
