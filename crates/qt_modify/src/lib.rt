@@ -7,3 +7,5 @@
 #![tactic(auto)]
 
 pub mod counts;
+pub mod reckon;
+pub mod unit;
