@@ -63,19 +63,27 @@ with_one q cs = record { ones = cs.ones ++ (q ∷ []); zeros = cs.zeros }
 abbrev pub with_zero : QubitRef → Controls → Controls
 with_zero q cs = record { ones = cs.ones; zeros = cs.zeros ++ (q ∷ []) }
 
+-- the control that a modifier is, with that qubit
+abbrev pub one_control : GateModifier → QubitRef → Controls → Controls
+one_control Inv q cs = cs
+one_control (Pow k) q cs = cs
+one_control Ctrl q cs = with_one q cs
+one_control NegCtrl q cs = with_zero q cs
+
+abbrev pub behind_control : GateModifier → List QubitRef → List QubitRef
+behind_control Inv qs = qs
+behind_control (Pow k) qs = qs
+behind_control Ctrl qs = others qs
+behind_control NegCtrl qs = others qs
+
+-- the controls under which the gate stands, and the qubits that are left to it
 abbrev pub inner_controls : List GateModifier → List QubitRef → Controls → Controls
 inner_controls [] qs cs = cs
-inner_controls (Inv ∷ ms) qs cs = inner_controls ms qs cs
-inner_controls (Pow k ∷ ms) qs cs = inner_controls ms qs cs
-inner_controls (Ctrl ∷ ms) qs cs = inner_controls ms (others qs) (with_one (first no_qubit qs) cs)
-inner_controls (NegCtrl ∷ ms) qs cs = inner_controls ms (others qs) (with_zero (first no_qubit qs) cs)
+inner_controls (m ∷ ms) qs cs = inner_controls ms (behind_control m qs) (one_control m (first no_qubit qs) cs)
 
 abbrev pub inner_qubits : List GateModifier → List QubitRef → List QubitRef
 inner_qubits [] qs = qs
-inner_qubits (Inv ∷ ms) qs = inner_qubits ms qs
-inner_qubits (Pow k ∷ ms) qs = inner_qubits ms qs
-inner_qubits (Ctrl ∷ ms) qs = inner_qubits ms (others qs)
-inner_qubits (NegCtrl ∷ ms) qs = inner_qubits ms (others qs)
+inner_qubits (m ∷ ms) qs = inner_qubits ms (behind_control m qs)
 
 abbrev pub modified_by : GateModifier → List UnitPrimitive → List UnitPrimitive
 modified_by Inv ps = undo inverse_of ps

@@ -1,3 +1,5 @@
 pub mod Reckoning
 pub mod Needs
 pub mod Expansions
+pub mod Known
+pub mod Eighths

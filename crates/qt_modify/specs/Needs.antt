@@ -1,6 +1,6 @@
 -- On which parameters of a gate an angle of its primitives depends (OpenQASM 3.0 live specification, "Gates", hierarchically defined unitary
 -- gates and quantum gate modifiers; Cross et al. 2022). An angle depends on the parameters that stand in it.
-use Rattle.std.specs.Prelude.{ℕ, zero, suc, pos, negsuc, nat_eq, Bool, true, false, not, ◌&&◌, ◌||◌, List, [], ◌∷◌, get_or}
+use Rattle.std.specs.Prelude.{ℕ, zero, suc, pos, negsuc, Bool, true, false, not, ◌&&◌, ◌||◌, List, [], ◌∷◌, get_or}
 use Rattle.std.specs.List.{list_any}
 use Rattle.qt_gate_calls.specs.declared.angle.Angle.{Angle}
 use Rattle.qt_gate_calls.specs.declared.angle.Angle.TheOpen as form
@@ -11,11 +11,15 @@ use Rattle.qt_gate_calls.specs.declared.body.GateModifier.TheVariants.{Inv, Pow,
 use Rattle.qt_gate_calls.specs.declared.body.Called.{Called}
 use Rattle.qt_gate_calls.specs.declared.body.Called.TheVariants as called
 use Rattle.qt_gate_calls.specs.declared.body.BodyCall.{BodyCall}
+use Rattle.qt_gate_calls.specs.Numbered.{if_number}
+
+abbrev pub is_number : ℕ → ℕ → Bool
+is_number n i = if_number n i true false
 
 -- the parameters that stand in one form of an angle, where those of its parts are these
 abbrev pub occurs_in_form : Angle-F (ℕ → Bool) → ℕ → Bool
 occurs_in_form (form.Units units) i = false
-occurs_in_form (form.Parameter number) i = nat_eq number i
+occurs_in_form (form.Parameter number) i = is_number number i
 occurs_in_form (form.Sum a b) i = a i || b i
 occurs_in_form (form.Difference a b) i = a i || b i
 occurs_in_form (form.Opposite a) i = a i

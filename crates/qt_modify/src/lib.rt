@@ -6,6 +6,12 @@
 //! No program calls them yet but the cases.
 #![tactic(auto)]
 
+pub mod arguments;
 pub mod counts;
+pub mod expand;
+pub mod expansion;
+pub mod finish;
+pub mod needs;
+pub mod primitives;
 pub mod reckon;
 pub mod unit;

@@ -106,11 +106,7 @@ fn stepped(steps: &mut Steps, step: AngleStep) -> Result<Argument, AllocError>
 }
 
 /// One operator, of which the result is known, or which is one step more.
-fn settled(
-    steps: &mut Steps,
-    step: AngleStep,
-    known: Option<Phase>,
-) -> Result<Argument, AllocError>
+fn settled(steps: &mut Steps, step: AngleStep, known: Option<Phase>) -> Result<Argument, AllocError>
     ensures { IfOk result (λ angle. settled steps.old step known ≡ record { steps = steps.new; angle = angle }) }
 {
     match known {
