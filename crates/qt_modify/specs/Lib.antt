@@ -3,3 +3,4 @@ pub mod Needs
 pub mod Expansions
 pub mod Known
 pub mod Eighths
+pub mod Calls

@@ -7,6 +7,7 @@
 #![tactic(auto)]
 
 pub mod arguments;
+pub mod call;
 pub mod counts;
 pub mod expand;
 pub mod expansion;

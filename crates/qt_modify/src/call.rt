@@ -1,0 +1,200 @@
+//! Expanding typed gate calls.
+
+ghost use Rattle.std.specs.Prelude.{◌≡◌, suc, IfOk};
+ghost use Rattle.qt_modify.specs.Calls as spec;
+ghost use Rattle.qt_modify.specs.Calls.{argument_of, arguments_from, behind_arguments, behind_operands, cell_behind, expansion_of};
+ghost use Rattle.qt_modify.specs.Calls.{fixed_phase, fixed_qubit, references_from, reference_of, use_expansion, HasByte, HaveBytes};
+ghost use Rattle.qt_modify.specs.Calls.{no_controls};
+ghost use Rattle.qt_modify.specs.Expansions.{call_expansion, expansions_of};
+ghost use Rattle.qt_modify.specs.Eighths.{Answers};
+
+use crate::expand::call_expansion;
+use crate::expansion::{ExpandRefusal, Expansion};
+use crate::finish::finished;
+use crate::needs::needs_of;
+use crate::unit::{Argument, Controls, Steps, UnitPrimitive};
+use qt_instructions::reference::QubitRef;
+use qt_outside::faults::OutOfMemory;
+use qt_phase::phase::Phase;
+use qt_registers::fixed::FixedQubit;
+use qt_tree::place::Place;
+use qt_typed::call::{GateUse, TypedCall, TypedQubit};
+use qt_typed::expression::TypedPhase;
+use sqlite_items::Items;
+use std::alloc::{AllocError, Global};
+
+// ---- cells
+
+/// The next cell, which is then taken. Cells whose numbers have more than 32 bits are more than memory holds.
+fn taken(next: &mut u32) -> Result<u32, AllocError>
+    ensures { IfOk result (λ cell. (cell ≡ next.old) × (next.new ≡ suc next.old)) }
+{
+    let cell = *next;
+    match cell.checked_add(1) {
+        Some(behind) => {
+            *next = behind;
+            Ok(cell)
+        }
+        None => Err(AllocError),
+    }
+}
+
+/// The phase of an argument, where it is fixed.
+fn fixed_phase(phase: &TypedPhase) -> Option<Phase>
+    ensures { result ≡ fixed_phase phase.now }
+{
+    match phase {
+        TypedPhase::Fixed { phase } => Some(*phase),
+        _ => None,
+    }
+}
+
+fn argument_of(fixed: Option<Phase>, next: &mut u32) -> Result<Argument, AllocError>
+    ensures { IfOk result (λ argument. (argument ≡ argument_of fixed next.old) × (next.new ≡ cell_behind fixed next.old)) }
+{
+    match fixed {
+        Some(phase) => Ok(Argument::Fixed { phase }),
+        None => Ok(Argument::Cell { cell: taken(next)? }),
+    }
+}
+
+/// The arguments of a call, those that aren't fixed in cells from the next one on.
+#[tactic(auto, using(crate::proofs::Lists::one_behind))]
+fn arguments_from(
+    alloc: Global,
+    mut phases: &[TypedPhase],
+    next: &mut u32,
+) -> Result<Items<Argument>, AllocError>
+    ensures { IfOk result (λ arguments. (arguments ≡ arguments_from next.old phases.entry.now)
+        × (next.new ≡ behind_arguments next.old phases.entry.now)) }
+{
+    let mut arguments = Items::new(alloc);
+    'phases: while let [first, rest @ ..] = phases {
+        let argument = argument_of(fixed_phase(first), next)?;
+        arguments.push(argument)?;
+        phases = rest;
+    }
+    Ok(arguments)
+}
+
+/// The number of an operand, where it is known.
+fn fixed_qubit(operand: &TypedQubit) -> Option<u64>
+    ensures { result ≡ fixed_qubit operand.now }
+{
+    match operand {
+        TypedQubit::Fixed { qubit } => number_of(*qubit),
+        _ => None,
+    }
+}
+
+fn number_of(qubit: FixedQubit) -> Option<u64>
+    ensures { result ≡ spec.number_of qubit }
+{
+    match qubit {
+        FixedQubit::Number { qubit } => Some(qubit),
+        FixedQubit::OfParameter { .. } => None,
+    }
+}
+
+fn reference_of(operand: &TypedQubit, next: &mut u32) -> Result<QubitRef, AllocError>
+    requires { HasByte operand.now }
+    ensures { IfOk result (λ reference. (reference ≡ reference_of (fixed_qubit operand.now) next.old)
+        × (next.new ≡ cell_behind (fixed_qubit operand.now) next.old)) }
+{
+    match fixed_qubit(operand) {
+        Some(number) => Ok(QubitRef::At(number as u8)),
+        None => Ok(QubitRef::Work(taken(next)?)),
+    }
+}
+
+/// The operands of a call, those whose numbers aren't known in cells from the next one on.
+#[tactic(auto, using(crate::proofs::Lists::one_behind))]
+fn references_from(
+    alloc: Global,
+    mut operands: &[TypedQubit],
+    next: &mut u32,
+) -> Result<Items<QubitRef>, AllocError>
+    requires { HaveBytes operands.now }
+    ensures { IfOk result (λ references. (references ≡ references_from next.old operands.entry.now)
+        × (next.new ≡ behind_operands next.old operands.entry.now)) }
+{
+    let mut references = Items::new(alloc);
+    'operands: while let [first, rest @ ..] = operands {
+        let reference = reference_of(first, next)?;
+        references.push(reference)?;
+        operands = rest;
+    }
+    Ok(references)
+}
+
+// ---- calls
+
+fn unit_expansion(
+    alloc: Global,
+    used: &GateUse,
+    arguments: &[Argument],
+    qubits: &[QubitRef],
+    steps: &mut Steps,
+) -> Result<Items<UnitPrimitive>, AllocError>
+    ensures { IfOk result (λ primitives. call_expansion (expansions_of used.now.gates) used.now.modifiers used.now.gate arguments.now no_controls
+        qubits.now steps.old ≡ record { steps = steps.new; primitives = primitives }) }
+{
+    let gates = used.gates.bodies();
+    let needs = needs_of(alloc, gates)?;
+    let controls = Controls {
+        ones: Items::new(alloc),
+        zeros: Items::new(alloc),
+    };
+    call_expansion(
+        alloc,
+        gates,
+        needs.as_slice(),
+        used.modifiers.as_slice(),
+        used.gate,
+        arguments,
+        &controls,
+        qubits,
+        steps,
+    )
+}
+
+/// The steps and primitives of a gate with its modifiers, for its arguments and on qubits. The first step writes the cell `first`. It is
+/// refused exactly where a fixed angle of a primitive is no multiple of π/4, with the units of the first such angle and that place.
+/// OpenQASM 3.0, "Gates".
+pub fn expand_use(
+    alloc: Global,
+    place: Place,
+    used: &GateUse,
+    arguments: &[Argument],
+    qubits: &[QubitRef],
+    first: u32,
+) -> Result<Expansion, ExpandRefusal>
+    ensures { Answers (use_expansion used.now arguments.now qubits.now first) place result }
+{
+    let mut steps = Steps {
+        first,
+        steps: Items::new(alloc),
+    };
+    let primitives = unit_expansion(alloc, used, arguments, qubits, &mut steps)?;
+    finished(alloc, place, steps, primitives.as_slice())
+}
+
+/// The steps and primitives of a call. Its arguments that aren't fixed have the first work cells, then its operands whose numbers aren't
+/// known, then the steps. It is refused exactly where a fixed angle of a primitive is no multiple of π/4, with the units of the first such
+/// angle. OpenQASM 3.0, "Gates", applying gates.
+pub fn expand(alloc: Global, call: &TypedCall) -> Result<Expansion, ExpandRefusal>
+    requires { HaveBytes call.now.operands }
+    ensures { Answers (expansion_of call.now) call.now.place result }
+{
+    let mut next = 0;
+    let arguments = arguments_from(alloc, call.used.arguments.as_slice(), &mut next)?;
+    let qubits = references_from(alloc, call.operands.as_slice(), &mut next)?;
+    expand_use(
+        alloc,
+        call.place,
+        &call.used,
+        arguments.as_slice(),
+        qubits.as_slice(),
+        next,
+    )
+}
