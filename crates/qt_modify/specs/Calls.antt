@@ -1,7 +1,7 @@
 -- Gate calls as they are typed (OpenQASM 3.0 live specification, "Gates", applying gates; Cross et al. 2022; work cells are this profile's).
 -- An argument that isn't fixed and an operand whose number isn't known have a work cell each: the arguments first, then the operands, in
 -- order. The steps write the cells behind.
-use Rattle.std.specs.Prelude.{◌≡◌, ℕ, suc, ℤ, ◌<◌, ◌^◌, List, [], ◌∷◌, Option, Some, None}
+use Rattle.std.specs.Prelude.{ℕ, suc, ℤ, ◌^◌, nat_lt, if◌then◌else◌, List, [], ◌∷◌, Option, Some, None}
 use Rattle.qt_registers.specs.declared.fixed.FixedQubit.{FixedQubit}
 use Rattle.qt_registers.specs.declared.fixed.FixedQubit.TheVariants as fixed
 use Rattle.qt_typed.specs.declared.expression.TypedPhase.{TypedPhase}
@@ -23,8 +23,12 @@ abbrev pub fixed_phase : TypedPhase → Option ℤ
 fixed_phase (phase.Fixed units) = Some units
 fixed_phase _ = None
 
+-- a number of eight bits, as the qubits of programs have; one above has a cell too
+abbrev pub as_byte : ℕ → Option ℕ
+as_byte q = if nat_lt q (2 ^ 8) then Some q else None
+
 abbrev pub number_of : FixedQubit → Option ℕ
-number_of (fixed.Number q) = Some q
+number_of (fixed.Number q) = as_byte q
 number_of (fixed.OfParameter parameter place) = None
 
 abbrev pub fixed_qubit : TypedQubit → Option ℕ
@@ -76,11 +80,3 @@ expansion_of call =
     let operands = behind_arguments 0 call.used.arguments in
     use_expansion call.used (arguments_from 0 call.used.arguments) (references_from operands call.operands)
     (behind_operands operands call.operands)
-
--- the number of an operand, where it is known, is one of eight bits: a program has few qubits
-abbrev pub HasByte : TypedQubit → Type 0
-HasByte operand = (q : ℕ) → fixed_qubit operand ≡ Some q → q < 2 ^ 8
-
-abbrev pub HaveBytes : List TypedQubit → Type 0
-HaveBytes [] = Unit {0}
-HaveBytes (q ∷ qs) = HasByte q × HaveBytes qs

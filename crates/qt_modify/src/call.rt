@@ -3,7 +3,7 @@
 ghost use Rattle.std.specs.Prelude.{◌≡◌, suc, IfOk};
 ghost use Rattle.qt_modify.specs.Calls as spec;
 ghost use Rattle.qt_modify.specs.Calls.{argument_of, arguments_from, behind_arguments, behind_operands, cell_behind, expansion_of};
-ghost use Rattle.qt_modify.specs.Calls.{fixed_phase, fixed_qubit, references_from, reference_of, use_expansion, HasByte, HaveBytes};
+ghost use Rattle.qt_modify.specs.Calls.{fixed_phase, fixed_qubit, references_from, reference_of, use_expansion};
 ghost use Rattle.qt_modify.specs.Calls.{no_controls};
 ghost use Rattle.qt_modify.specs.Expansions.{call_expansion, expansions_of};
 ghost use Rattle.qt_modify.specs.Eighths.{Answers};
@@ -77,8 +77,27 @@ fn arguments_from(
     Ok(arguments)
 }
 
+/// The number, where it has eight bits.
+fn as_byte(number: u64) -> Option<u8>
+    ensures { result ≡ spec.as_byte number }
+{
+    match u8::try_from(number) {
+        Ok(number) => Some(number),
+        Err(_) => None,
+    }
+}
+
+fn number_of(qubit: FixedQubit) -> Option<u8>
+    ensures { result ≡ spec.number_of qubit }
+{
+    match qubit {
+        FixedQubit::Number { qubit } => as_byte(qubit),
+        FixedQubit::OfParameter { .. } => None,
+    }
+}
+
 /// The number of an operand, where it is known.
-fn fixed_qubit(operand: &TypedQubit) -> Option<u64>
+fn fixed_qubit(operand: &TypedQubit) -> Option<u8>
     ensures { result ≡ fixed_qubit operand.now }
 {
     match operand {
@@ -87,22 +106,11 @@ fn fixed_qubit(operand: &TypedQubit) -> Option<u64>
     }
 }
 
-fn number_of(qubit: FixedQubit) -> Option<u64>
-    ensures { result ≡ spec.number_of qubit }
+fn reference_of(fixed: Option<u8>, next: &mut u32) -> Result<QubitRef, AllocError>
+    ensures { IfOk result (λ reference. (reference ≡ reference_of fixed next.old) × (next.new ≡ cell_behind fixed next.old)) }
 {
-    match qubit {
-        FixedQubit::Number { qubit } => Some(qubit),
-        FixedQubit::OfParameter { .. } => None,
-    }
-}
-
-fn reference_of(operand: &TypedQubit, next: &mut u32) -> Result<QubitRef, AllocError>
-    requires { HasByte operand.now }
-    ensures { IfOk result (λ reference. (reference ≡ reference_of (fixed_qubit operand.now) next.old)
-        × (next.new ≡ cell_behind (fixed_qubit operand.now) next.old)) }
-{
-    match fixed_qubit(operand) {
-        Some(number) => Ok(QubitRef::At(number as u8)),
+    match fixed {
+        Some(number) => Ok(QubitRef::At(number)),
         None => Ok(QubitRef::Work(taken(next)?)),
     }
 }
@@ -114,13 +122,12 @@ fn references_from(
     mut operands: &[TypedQubit],
     next: &mut u32,
 ) -> Result<Items<QubitRef>, AllocError>
-    requires { HaveBytes operands.now }
     ensures { IfOk result (λ references. (references ≡ references_from next.old operands.entry.now)
         × (next.new ≡ behind_operands next.old operands.entry.now)) }
 {
     let mut references = Items::new(alloc);
     'operands: while let [first, rest @ ..] = operands {
-        let reference = reference_of(first, next)?;
+        let reference = reference_of(fixed_qubit(first), next)?;
         references.push(reference)?;
         operands = rest;
     }
@@ -183,7 +190,6 @@ pub fn expand_use(
 /// known, then the steps. It is refused exactly where a fixed angle of a primitive is no multiple of π/4, with the units of the first such
 /// angle. OpenQASM 3.0, "Gates", applying gates.
 pub fn expand(alloc: Global, call: &TypedCall) -> Result<Expansion, ExpandRefusal>
-    requires { HaveBytes call.now.operands }
     ensures { Answers (expansion_of call.now) call.now.place result }
 {
     let mut next = 0;
