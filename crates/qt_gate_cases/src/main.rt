@@ -7,11 +7,18 @@
 //! A row `count NAME MODIFIER ..` is a call of that standard gate under these modifiers, `inv`, `ctrl`, `negctrl` or `pow:K`: the answer is
 //! how many primitives and operators it comes to. A row `chain N K` is a call of the last of N gates behind the standard ones, the first of
 //! which calls `swap` twice, and each other the gate before it, with K operators in the arguments of each call.
+//! A row `expand NAME ARGUMENTS OPERANDS MODIFIER ..` is a call of that standard gate in line 4 and column 9: ARGUMENTS are units of
+//! π/2^32 and OPERANDS numbers, with commas between, `?` for one of the run and `-` for none. The answer has the steps, with `wN` for the
+//! work cell N, and the primitives, each with its controls that are to be 1, those that are to be 0, its qubit and its angles in π/4; or
+//! the angle that it is refused for.
 //! A line that is no such row is answered with `no row`.
 //!
 //! `gate_cases.py` writes the rows and the answers that are wanted.
 #![tactic(auto)]
 
+mod expansions;
+
+use crate::expansions::{arguments_in, operands_in, tell_call};
 use qt_gate_calls::body::{BodyCall, Called, GateBodies, GateBody, GateModifier};
 use qt_gates::named::{ROWS, standard};
 use qt_gates::table::standard_bodies;
@@ -185,6 +192,30 @@ fn answer_count(alloc: Global, row: &mut Row<'_>, answer: &mut Answer) {
     }
 }
 
+/// `expand NAME ARGUMENTS OPERANDS MODIFIER ..`
+fn answer_expand(alloc: Global, row: &mut Row<'_>, answer: &mut Answer) {
+    let Some(gate) = standard(row.word()) else {
+        row.refuse();
+        return;
+    };
+    let arguments = row.word();
+    let arguments = arguments_in(alloc, arguments, row, answer);
+    let operands = row.word();
+    let operands = operands_in(alloc, operands, row, answer);
+    let modifiers = modifiers_in(alloc, row, answer);
+    if let Some(gates) = gates_with(alloc, Items::new(alloc), answer) {
+        tell_call(
+            alloc,
+            gates,
+            modifiers,
+            gate.number,
+            arguments,
+            operands,
+            answer,
+        );
+    }
+}
+
 /// A call of the gate with that number, on no qubits.
 fn bare_call(alloc: Global, number: u32, operators: u32) -> BodyCall {
     BodyCall {
@@ -243,6 +274,7 @@ impl Cases for GateCases {
             "table" => answer_table(alloc, row, answer),
             "count" => answer_count(alloc, row, answer),
             "chain" => answer_chain(alloc, row, answer),
+            "expand" => answer_expand(alloc, row, answer),
             _ => row.refuse(),
         }
     }
