@@ -1,0 +1,4 @@
+pub mod Tied
+pub mod Reading
+pub mod Expanding
+pub mod Refusals
