@@ -1,16 +1,22 @@
 -- What the calls of a body come to, one by one, and the gates by their bodies.
-use Rattle.std.proofs.Common.{◌≡◌, ℕ, zero, suc, ◌+◌, ◌<◌, ◌≤◌, List, [], ◌∷◌, ◌++◌, length, take, get_or, refl, sym, ap, subst, ◌∙◌, arith, append_assoc, length-take, Some, None}
+use Rattle.std.proofs.Common.{◌≡◌, ℕ, zero, suc, ◌+◌, ◌<◌, ◌≤◌, List, [], ◌∷◌, ◌++◌, length, take, get_or, refl, sym, ap, subst, ◌∙◌, arith, append_assoc, length-take, inl, inr, ◌⊎◌, Some, None}
+use Rattle.std.proofs.lemmas.Bool.{cases_lt}
 use Rattle.std.proofs.lemmas.List.{take_more}
-use Rattle.std.specs.Prelude.{slice_get, IfOk, Result}
+use Rattle.std.specs.Prelude.{slice_get, if◌then◌else◌, IfOk, Result}
 use Rattle.qt_gate_calls.specs.declared.body.BodyCall.{BodyCall}
 use Rattle.qt_gate_calls.specs.declared.body.GateBody.{GateBody}
+use Rattle.qt_gate_calls.specs.declared.body.GateModifier.{GateModifier}
+use Rattle.qt_gate_calls.specs.declared.body.Called.{Called}
+use Rattle.qt_gate_calls.specs.declared.body.Called.TheVariants as called
 use Rattle.qt_instructions.specs.declared.reference.QubitRef.{QubitRef}
 use Rattle.qt_modify.specs.declared.unit.Argument.{Argument}
 use Rattle.qt_modify.specs.declared.unit.Controls.{Controls}
 use Rattle.qt_modify.specs.declared.unit.Steps.{Steps}
 use Rattle.qt_modify.specs.declared.unit.UnitPrimitive.{UnitPrimitive}
-use Rattle.qt_modify.specs.Expansions.{Expanded, GateExpansion, GateExpansions, then_rest, nothing_after, body_call_expansion, calls_expansion, expansions_of}
-use Rattle.qt_modify.proofs.Numbers.{gate_expands, no_gate_expands}
+use Rattle.qt_modify.specs.Expansions.{Expanded, GateExpansion, GateExpansions, with_primitives, modified, inner_controls, inner_qubits, call_expansion, then_rest, nothing_after, body_call_expansion, calls_expansion, expansions_of}
+use Rattle.qt_modify.specs.Calls.{reached}
+use Rattle.qt_modify.specs.Needs.{are_idle}
+use Rattle.qt_modify.proofs.Numbers.{gate_expands, no_gate_expands, expands_before}
 
 -- steps and primitives
 abbrev pub expanded : Steps → List UnitPrimitive → Expanded
@@ -80,3 +86,32 @@ fewer gates k h = simp length-take (omega arith)
 pub same_as : {E : Type 0} (r : Result (List UnitPrimitive) E) (x y : Expanded) (s : Steps) → x ≡ y
     → IfOk r (λ ps. x ≡ expanded s ps) → IfOk r (λ ps. y ≡ expanded s ps)
 same_as r x y s e h = subst (λ (z : Expanded). IfOk r (λ ps. z ≡ expanded s ps)) e h
+
+-- ---- the gates that a call reaches
+
+abbrev under : List GateModifier → List Argument → Controls → List QubitRef → Steps → GateExpansion → Expanded
+under ms given cs qs steps x =
+    if are_idle ms then nothing_after steps
+    else with_primitives (modified ms) (x.expander given (inner_controls ms qs cs) (inner_qubits ms qs) steps)
+
+same_gate : (gates : List GateBody) (k : ℕ) → expansions_of (take (suc k) gates) k ≡ expansions_of gates k
+same_gate gates k = by_place (cases_lt k (length gates))
+  where
+    short : length (take (suc k) gates) ≤ length gates
+    short = simp length-take (omega arith)
+
+    by_place : (k < length gates) ⊎ (length gates ≤ k) → expansions_of (take (suc k) gates) k ≡ expansions_of gates k
+    by_place (inl h) = expands_before gates k (suc k) (omega arith) h
+    by_place (inr h) = no_gate_expands (take (suc k) gates) k (omega (arith, short, h)) ∙ sym (no_gate_expands gates k h)
+
+pub reached_expand : (gates : List GateBody) (ms : List GateModifier) (gate : Called) (given : List Argument) (cs : Controls) (qs : List QubitRef)
+    (steps : Steps) → call_expansion (expansions_of (reached gates gate)) ms gate given cs qs steps
+    ≡ call_expansion (expansions_of gates) ms gate given cs qs steps
+reached_expand gates ms called.U given cs qs steps = refl
+reached_expand gates ms called.GlobalPhase given cs qs steps = refl
+reached_expand gates ms (called.Gate k) given cs qs steps = ap (under ms given cs qs steps) (same_gate gates k)
+
+pub all_taken : (gates : List GateBody) (k : ℕ) → length gates ≤ k → take (suc k) gates ≡ gates
+all_taken [] k h = refl
+all_taken (g ∷ gates) zero h = absurd (omega arith)
+all_taken (g ∷ gates) (suc k) h = ap (λ t. g ∷ t) (all_taken gates k (omega arith))

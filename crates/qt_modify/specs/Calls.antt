@@ -1,7 +1,10 @@
 -- Gate calls as they are typed (OpenQASM 3.0 live specification, "Gates", applying gates; Cross et al. 2022; work cells are this profile's).
 -- An argument that isn't fixed and an operand whose number isn't known have a work cell each: the arguments first, then the operands, in
 -- order. The steps write the cells behind.
-use Rattle.std.specs.Prelude.{ℕ, suc, ℤ, ◌^◌, nat_lt, if◌then◌else◌, List, [], ◌∷◌, Option, Some, None}
+use Rattle.std.specs.Prelude.{ℕ, suc, ℤ, ◌^◌, nat_lt, if◌then◌else◌, List, [], ◌∷◌, take, Option, Some, None}
+use Rattle.qt_gate_calls.specs.declared.body.Called.{Called}
+use Rattle.qt_gate_calls.specs.declared.body.Called.TheVariants as called
+use Rattle.qt_gate_calls.specs.declared.body.GateBody.{GateBody}
 use Rattle.qt_registers.specs.declared.fixed.FixedQubit.{FixedQubit}
 use Rattle.qt_registers.specs.declared.fixed.FixedQubit.TheVariants as fixed
 use Rattle.qt_typed.specs.declared.expression.TypedPhase.{TypedPhase}
@@ -64,6 +67,13 @@ references_from cell (q ∷ qs) = reference_of (fixed_qubit q) cell ∷ referenc
 abbrev pub behind_operands : ℕ → List TypedQubit → ℕ
 behind_operands cell [] = cell
 behind_operands cell (q ∷ qs) = behind_operands (cell_behind (fixed_qubit q) cell) qs
+
+-- ---- the gates that a call may put in: the one that it calls, and those before it
+
+abbrev pub reached : List GateBody → Called → List GateBody
+reached gates called.U = []
+reached gates called.GlobalPhase = []
+reached gates (called.Gate number) = take (suc number) gates
 
 -- ---- the steps and primitives
 

@@ -1,9 +1,9 @@
 //! Expanding typed gate calls.
 
-ghost use Rattle.std.specs.Prelude.{◌≡◌, suc, IfOk};
+ghost use Rattle.std.specs.Prelude.{◌≡◌, suc, take, IfOk};
 ghost use Rattle.qt_modify.specs.Calls as spec;
 ghost use Rattle.qt_modify.specs.Calls.{argument_of, arguments_from, behind_arguments, behind_operands, cell_behind, expansion_of};
-ghost use Rattle.qt_modify.specs.Calls.{fixed_phase, fixed_qubit, references_from, reference_of, use_expansion};
+ghost use Rattle.qt_modify.specs.Calls.{fixed_phase, fixed_qubit, reached, references_from, reference_of, use_expansion};
 ghost use Rattle.qt_modify.specs.Calls.{no_controls};
 ghost use Rattle.qt_modify.specs.Expansions.{call_expansion, expansions_of};
 ghost use Rattle.qt_modify.specs.Eighths.{Answers};
@@ -13,6 +13,7 @@ use crate::expansion::{ExpandRefusal, Expansion};
 use crate::finish::finished;
 use crate::needs::needs_of;
 use crate::unit::{Argument, Controls, Steps, UnitPrimitive};
+use qt_gate_calls::body::{Called, GateBody};
 use qt_instructions::reference::QubitRef;
 use qt_outside::faults::OutOfMemory;
 use qt_phase::phase::Phase;
@@ -136,6 +137,29 @@ fn references_from(
 
 // ---- calls
 
+/// The gates up to that number, and all where there are fewer.
+#[tactic(auto, using(crate::proofs::Calls::all_taken))]
+fn up_to(gates: &[GateBody], number: usize) -> &[GateBody]
+    ensures { result.now ≡ take (suc number) gates.now }
+{
+    if number < gates.len() {
+        &gates[..number + 1]
+    } else {
+        gates
+    }
+}
+
+/// The gates that a call may put in. Only these are gone through, so a call of a standard gate costs the same whatever is declared.
+fn reached(gates: &[GateBody], gate: Called) -> &[GateBody]
+    ensures { result.now ≡ reached gates.now gate }
+{
+    match gate {
+        Called::U | Called::GlobalPhase => &[],
+        Called::Gate { number } => up_to(gates, number as usize),
+    }
+}
+
+#[tactic(auto, using(crate::proofs::Calls::reached_expand))]
 fn unit_expansion(
     alloc: Global,
     used: &GateUse,
@@ -146,7 +170,7 @@ fn unit_expansion(
     ensures { IfOk result (λ primitives. call_expansion (expansions_of used.now.gates) used.now.modifiers used.now.gate arguments.now no_controls
         qubits.now steps.old ≡ record { steps = steps.new; primitives = primitives }) }
 {
-    let gates = used.gates.bodies();
+    let gates = reached(used.gates.bodies(), used.gate);
     let needs = needs_of(alloc, gates)?;
     let controls = Controls {
         ones: Items::new(alloc),
