@@ -1,9 +1,9 @@
 -- What a gate is by number follows from its body and from the gates before it.
-use Rattle.std.proofs.Common.{◌≡◌, ◌≢◌, ℕ, zero, suc, ◌+◌, ◌<◌, ◌≤◌, List, [], ◌∷◌, ◌++◌, length, take, get_or, refl, sym, ap, subst, ◌∙◌, arith, Some, None}
+use Rattle.std.proofs.Common.{◌≡◌, ℕ, zero, suc, ◌+◌, ◌<◌, ◌≤◌, List, [], ◌∷◌, length, take, refl, sym, ap, ◌∙◌, arith, Some}
 use Rattle.std.specs.Prelude.{slice_get}
 use Rattle.qt_gate_calls.specs.declared.body.GateBody.{GateBody}
-use Rattle.qt_gate_calls.specs.Numbered.{if_number, numbered_from, numbered}
-use Rattle.qt_modify.specs.Expansions.{GateExpansion, GateExpansions, body_expansion, no_expansion, expansions_of}
+use Rattle.qt_gate_calls.specs.Numbered.{if_number, numbered_from}
+use Rattle.qt_modify.specs.Expansions.{body_expansion, no_expansion, expansions_of}
 
 number_same : {A : Type 0} (n : ℕ) (a b : A) → if_number n n a b ≡ a
 number_same zero a b = refl

@@ -1,6 +1,6 @@
 -- Which parameters are needed, call by call and gate by gate.
-use Rattle.std.proofs.Common.{◌≡◌, ℕ, zero, suc, ◌+◌, ◌<◌, ◌≤◌, List, [], ◌∷◌, ◌++◌, length, take, get_or, refl, sym, ap, subst, ◌∙◌, arith, inl, inr, ◌⊎◌, Some, length-take}
-use Rattle.std.specs.Prelude.{Bool, true, false, ◌||◌, ◌&&◌, slice_get}
+use Rattle.std.proofs.Common.{◌≡◌, ℕ, zero, suc, ◌+◌, ◌<◌, ◌≤◌, List, [], ◌∷◌, ◌++◌, length, take, get_or, refl, sym, ap, ◌∙◌, arith, inl, inr, ◌⊎◌, Some, length-take}
+use Rattle.std.specs.Prelude.{Bool, ◌||◌, ◌&&◌, slice_get}
 use Rattle.std.proofs.Math.Bool.{or_assoc}
 use Rattle.std.proofs.lemmas.Bool.{cases_order}
 use Rattle.std.proofs.lemmas.List.{get_or_append_left, get_or_push, take_more}
@@ -9,7 +9,7 @@ use Rattle.qt_gate_calls.specs.declared.body.BodyCall.{BodyCall}
 use Rattle.qt_gate_calls.specs.declared.body.GateBody.{GateBody}
 use Rattle.qt_modify.specs.Needs.{Needs, flag_at, occurs, wanted, angles_need, calls_need}
 use Rattle.qt_modify.specs.Known.{Marks, KnowsNeeds}
-use Rattle.qt_modify.specs.Expansions.{GateExpansion, needs_in, body_expansion, expansions_of}
+use Rattle.qt_modify.specs.Expansions.{GateExpansion, needs_in, expansions_of}
 use Rattle.qt_modify.proofs.Flags.{or_false, both_marked}
 use Rattle.qt_modify.proofs.Numbers.{gate_expands, expands_before}
 

@@ -1,7 +1,7 @@
 -- The steps and primitives that a gate call comes to, where some of its arguments and qubits stand in work cells (OpenQASM 3.0 live
 -- specification, "Gates": built-in gates, quantum gate modifiers, hierarchically defined unitary gates; Cross et al. 2022; steps and work
 -- cells are this profile's). Of the arguments in a body those are reckoned on which an angle of a primitive depends.
-use Rattle.std.specs.Prelude.{ℕ, zero, suc, ℤ, pos, neg_ℤ, Bool, true, false, not, if◌then◌else◌, List, [], ◌∷◌, ◌++◌}
+use Rattle.std.specs.Prelude.{ℕ, suc, pos, neg_ℤ, Bool, true, false, not, if◌then◌else◌, List, [], ◌∷◌, ◌++◌}
 use Rattle.qt_gate_calls.specs.declared.angle.Angle.{Angle}
 use Rattle.qt_gate_calls.specs.declared.body.GateModifier.{GateModifier}
 use Rattle.qt_gate_calls.specs.declared.body.GateModifier.TheVariants.{Inv, Pow, Ctrl, NegCtrl}

@@ -1,9 +1,9 @@
 -- Lists of primitives and of qubits, through what their references stand for.
-use Rattle.std.proofs.Common.{◌≡◌, ℕ, zero, suc, Bool, true, false, List, [], ◌∷◌, ◌++◌, map, refl, sym, ap, ◌∙◌, Some, None}
+use Rattle.std.proofs.Common.{◌≡◌, ℕ, zero, suc, true, false, List, [], ◌∷◌, ◌++◌, map, refl, sym, ap, ◌∙◌, Some, None}
 use Rattle.std.specs.Prelude.{ℤ, pos, negsuc}
 use Rattle.qt_integers.proofs.Integers.{neg_neg}
 use Rattle.qt_gate_calls.specs.Units.{KnownUnits, opposite}
-use Rattle.qt_gate_calls.specs.Primitives.{Turned, Phased, ControlsOf, with_one, with_zero, undo, repeated, powered, nth_or, picked, first, others, Primitive, inverse_of}
+use Rattle.qt_gate_calls.specs.Primitives.{Turned, Phased, ControlsOf, with_one, with_zero, undo, repeated, powered, nth_or, picked, others, inverse_of}
 use Rattle.qt_instructions.specs.declared.reference.QubitRef.{QubitRef}
 use Rattle.qt_modify.specs.declared.unit.Argument.{Argument}
 use Rattle.qt_modify.specs.declared.unit.Argument.TheVariants as argument
@@ -16,7 +16,7 @@ use Rattle.qt_modify.specs.declared.unit.UnitPrimitive.{UnitPrimitive}
 use Rattle.qt_modify.specs.Reckoning.{Cells}
 use Rattle.qt_modify.specs.Expansions.{angle_of, minus, inverse_action}
 use Rattle.qt_modify.specs.Expansions as unit
-use Rattle.qt_modify_laws.specs.Laws.{held_in, negated_if, angle_at, action_at, primitive_at}
+use Rattle.qt_modify_laws.specs.Laws.{held_in, angle_at, action_at, primitive_at}
 
 pub map-append : {X Y : Type 0} (f : X → Y) (xs ys : List X) → map f (xs ++ ys) ≡ map f xs ++ map f ys
 map-append f [] ys = refl

@@ -1,5 +1,5 @@
 -- The refusal of a call is the first angle that is known before the run and no multiple of π/4.
-use Rattle.std.proofs.Common.{◌≡◌, ℕ, true, false, List, [], ◌∷◌, map, refl, sym, ap, ◌∙◌, Option, Some, None}
+use Rattle.std.proofs.Common.{◌≡◌, ℕ, true, false, List, [], ◌∷◌, map, refl, ap, ◌∙◌, Option, Some, None}
 use Rattle.std.specs.Prelude.{ℤ}
 use Rattle.qt_gate_calls.specs.Faults as faults
 use Rattle.qt_gate_calls.specs.Faults.{wrong, or_later}

@@ -1,8 +1,8 @@
 -- What the steps and primitives of an expansion stand for (OpenQASM 3.0 live specification, "Gates"; Cross et al. 2022; steps and work cells
 -- are this profile's): where the work cells hold what the steps give, its primitives are those of the call.
-use Rattle.std.specs.Prelude.{◌≡◌, ℕ, suc, ℤ, Bool, if◌then◌else◌, List, [], ◌∷◌, map, Option, Some, None}
+use Rattle.std.specs.Prelude.{◌≡◌, ℕ, suc, Bool, if◌then◌else◌, List, [], ◌∷◌, map, Some, None}
 use Rattle.qt_gate_calls.specs.Units.{KnownUnits, opposite}
-use Rattle.qt_gate_calls.specs.Primitives.{PrimitiveOf, Turned, Phased, Primitive, ControlsOf, no_controls, call_primitives, primitives_of}
+use Rattle.qt_gate_calls.specs.Primitives.{Turned, Phased, Primitive, no_controls, call_primitives, primitives_of}
 use Rattle.qt_gate_calls.specs.Faults as faults
 use Rattle.qt_instructions.specs.declared.angle.AngleStep.{AngleStep}
 use Rattle.qt_instructions.specs.declared.reference.QubitRef.{QubitRef}
@@ -12,7 +12,6 @@ use Rattle.qt_modify.specs.declared.unit.UnitAngle.{UnitAngle}
 use Rattle.qt_modify.specs.declared.unit.UnitAngle.TheVariants as angle
 use Rattle.qt_modify.specs.declared.unit.Action.{Action}
 use Rattle.qt_modify.specs.declared.unit.Action.TheVariants.{Turn, Phase}
-use Rattle.qt_modify.specs.declared.unit.Controls.{Controls}
 use Rattle.qt_modify.specs.declared.unit.UnitPrimitive.{UnitPrimitive}
 use Rattle.qt_modify.specs.declared.unit.Steps.{Steps}
 use Rattle.qt_modify.specs.Reckoning.{Cells, held, none_known, result_of, arg_of}
