@@ -2,3 +2,4 @@ pub mod Tied
 pub mod Reading
 pub mod Expanding
 pub mod Refusals
+pub mod Counted

@@ -1,9 +1,11 @@
 -- What the steps and primitives of an expansion stand for (OpenQASM 3.0 live specification, "Gates"; Cross et al. 2022; steps and work cells
 -- are this profile's): where the work cells hold what the steps give, its primitives are those of the call.
-use Rattle.std.specs.Prelude.{◌≡◌, ℕ, suc, Bool, if◌then◌else◌, List, [], ◌∷◌, map, Some, None}
+use Rattle.std.specs.Prelude.{◌≡◌, ℕ, suc, Bool, if◌then◌else◌, List, [], ◌∷◌, length, map, Some, None}
 use Rattle.qt_gate_calls.specs.Units.{KnownUnits, opposite}
 use Rattle.qt_gate_calls.specs.Primitives.{Turned, Phased, Primitive, no_controls, call_primitives, primitives_of}
+use Rattle.qt_gate_calls.specs.Counts.{call_count, primitive_counts}
 use Rattle.qt_gate_calls.specs.Faults as faults
+use Rattle.qt_gate_calls.specs.Stopped.{stopped}
 use Rattle.qt_instructions.specs.declared.angle.AngleStep.{AngleStep}
 use Rattle.qt_instructions.specs.declared.reference.QubitRef.{QubitRef}
 use Rattle.qt_typed.specs.declared.call.GateUse.{GateUse}
@@ -103,3 +105,9 @@ abbrev pub RefusalIsFirstWrong : Type 0
 RefusalIsFirstWrong =
     (place : QubitRef → ℕ) → place no_qubit ≡ 0 → (used : GateUse) (given : List Argument) (qs : List QubitRef) (first : ℕ)
     → first_wrong (use_expansion used given qs first).primitives ≡ faults.first_wrong (primitives_at none_known place used given qs)
+
+-- an expansion has as many primitives as are counted for it, up to the stop
+abbrev pub ExpansionsHaveTheirCount : Type 0
+ExpansionsHaveTheirCount =
+    (used : GateUse) (given : List Argument) (qs : List QubitRef) (first : ℕ)
+    → stopped (length (use_expansion used given qs first).primitives) ≡ stopped (call_count (primitive_counts used.gates) used.modifiers used.gate)
