@@ -42,7 +42,8 @@ module _ (e : GateExpansions) (given : List Argument) (cs : Controls) (qs : List
       ∙ ap (expanded s2)
       (sym (append_assoc one.primitives rest.primitives more) ∙ ap (λ t. t ++ more) (ap (λ (t : Expanded). t.primitives) f))
 
-  pub one_more_call : (calls : List BodyCall) (n : ℕ) (c : BodyCall) (s0 s1 s2 : Steps) (ps more new : List UnitPrimitive) → n < length calls
+  pub one_more_call : (calls : List BodyCall) (n : ℕ) (c : BodyCall) (s0 s1 s2 : Steps) (ps more new : List UnitPrimitive)
+      → n < length calls
       → c ≡ get_or calls n c → calls_expansion e (take n calls) given cs qs s0 ≡ expanded s1 ps
       → body_call_expansion e c given cs qs s1 ≡ expanded s2 more → new ≡ ps ++ more
       → calls_expansion e (take (n + 1) calls) given cs qs s0 ≡ expanded s2 new
@@ -69,7 +70,8 @@ past_all (g ∷ gates) (suc k) e =
     omega arith
 
 pub at_no_gate : (gates : List GateBody) (k : ℕ) (given : List Argument) (cs : Controls) (qs : List QubitRef) (steps : Steps)
-    (out : List UnitPrimitive) → slice_get gates k ≡ None → out ≡ [] → (expansions_of gates k).expander given cs qs steps ≡ expanded steps out
+    (out : List UnitPrimitive) → slice_get gates k ≡ None → out ≡ []
+    → (expansions_of gates k).expander given cs qs steps ≡ expanded steps out
 at_no_gate gates k given cs qs steps out e o =
     ap (λ (x : GateExpansion). x.expander given cs qs steps) (no_gate_expands gates k (past_all gates k e)) ∙ ap (expanded steps) (sym o)
 
@@ -104,7 +106,8 @@ same_gate gates k = by_place (cases_lt k (length gates))
     by_place (inl h) = expands_before gates k (suc k) (omega arith) h
     by_place (inr h) = no_gate_expands (take (suc k) gates) k (omega (arith, short, h)) ∙ sym (no_gate_expands gates k h)
 
-pub reached_expand : (gates : List GateBody) (ms : List GateModifier) (gate : Called) (given : List Argument) (cs : Controls) (qs : List QubitRef)
+pub reached_expand : (gates : List GateBody) (ms : List GateModifier) (gate : Called) (given : List Argument) (cs : Controls)
+    (qs : List QubitRef)
     (steps : Steps) → call_expansion (expansions_of (reached gates gate)) ms gate given cs qs steps
     ≡ call_expansion (expansions_of gates) ms gate given cs qs steps
 reached_expand gates ms called.U given cs qs steps = refl

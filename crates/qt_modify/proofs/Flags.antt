@@ -63,12 +63,14 @@ sum_marked a b old mid new f g = subst (Marks old new) (sym (sum_occurs a b)) (b
 
 pub difference_marked : (a b : Angle) (old mid new : List Bool) → Marks old mid (occurs a) → Marks mid new (occurs b)
     → Marks old new (occurs (angle.Difference a b))
-difference_marked a b old mid new f g = subst (Marks old new) (sym (difference_occurs a b)) (both_marked old mid new (occurs a) (occurs b) f g)
+difference_marked a b old mid new f g = subst (Marks old new) (sym (difference_occurs a b))
+    (both_marked old mid new (occurs a) (occurs b) f g)
 
 pub opposite_marked : (a : Angle) (old new : List Bool) → Marks old new (occurs a) → Marks old new (occurs (angle.Opposite a))
 opposite_marked a old new h = subst (Marks old new) (sym (opposite_occurs a)) h
 
-pub product_marked : (a : Angle) (factor : ℤ) (old new : List Bool) → Marks old new (occurs a) → Marks old new (occurs (angle.Product a factor))
+pub product_marked : (a : Angle) (factor : ℤ) (old new : List Bool) → Marks old new (occurs a)
+    → Marks old new (occurs (angle.Product a factor))
 product_marked a factor old new h = subst (Marks old new) (sym (product_occurs a factor)) h
 
 pub quotient_marked : (a : Angle) (divisor : ℤ) (old new : List Bool) → Marks old new (occurs a)

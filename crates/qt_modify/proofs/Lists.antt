@@ -30,7 +30,8 @@ qubit_found [] place = refl
 qubit_found (q ∷ qs) zero = refl
 qubit_found (q ∷ qs) (suc place) = qubit_found qs place
 
-picked_last : (qs : List QubitRef) (ps : List ℕ) (p : ℕ) → picked no_qubit qs (ps ++ p ∷ []) ≡ picked no_qubit qs ps ++ nth_or no_qubit p qs ∷ []
+picked_last : (qs : List QubitRef) (ps : List ℕ) (p : ℕ) → picked no_qubit qs
+    (ps ++ p ∷ []) ≡ picked no_qubit qs ps ++ nth_or no_qubit p qs ∷ []
 picked_last qs [] p = refl
 picked_last qs (x ∷ ps) p = ap (λ t. nth_or no_qubit x qs ∷ t) (picked_last qs ps p)
 
@@ -135,7 +136,8 @@ one_more_reckoned want given angles n a s0 s1 s2 outs new arg h e f g w =
 
 -- ---- the last pass
 
-with_eighths_last : (ps : List UnitPrimitive) (p : UnitPrimitive) → map with_eighths (ps ++ p ∷ []) ≡ map with_eighths ps ++ with_eighths p ∷ []
+with_eighths_last : (ps : List UnitPrimitive) (p : UnitPrimitive)
+    → map with_eighths (ps ++ p ∷ []) ≡ map with_eighths ps ++ with_eighths p ∷ []
 with_eighths_last [] p = refl
 with_eighths_last (x ∷ ps) p = ap (λ t. with_eighths x ∷ t) (with_eighths_last ps p)
 

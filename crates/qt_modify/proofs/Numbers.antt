@@ -84,7 +84,8 @@ found [] k h = absurd (omega arith)
 found (g ∷ gates) zero h = (g, refl)
 found (g ∷ gates) (suc k) h = found gates k (omega arith)
 
-found_before : (gates : List GateBody) (i k : ℕ) (body : GateBody) → i < k → slice_get gates i ≡ Some body → slice_get (take k gates) i ≡ Some body
+found_before : (gates : List GateBody) (i k : ℕ) (body : GateBody) → i < k → slice_get gates i ≡ Some body
+    → slice_get (take k gates) i ≡ Some body
 found_before [] i k body h e = absurd (cc)
 found_before (g ∷ gates) i zero body h e = absurd (omega arith)
 found_before (g ∷ gates) zero (suc k) body h e = e

@@ -1,6 +1,6 @@
--- Gate calls as they are typed (OpenQASM 3.0 live specification, "Gates", applying gates; Cross et al. 2022; work cells are this profile's).
--- An argument that isn't fixed and an operand whose number isn't known have a work cell each: the arguments first, then the operands, in
--- order. The steps write the cells behind.
+-- Gate calls as they are typed (OpenQASM 3.0 live specification, "Gates", applying gates; Cross et al. 2022; work cells are this
+-- profile's). An argument that isn't fixed and an operand whose number isn't known have a work cell each: the arguments first, then the
+-- operands, in order. The steps write the cells behind.
 use Rattle.std.specs.Prelude.{ℕ, suc, ℤ, ◌^◌, nat_lt, if◌then◌else◌, List, [], ◌∷◌, take, Option, Some, None}
 use Rattle.qt_gate_calls.specs.declared.body.Called.{Called}
 use Rattle.qt_gate_calls.specs.declared.body.Called.TheVariants as called

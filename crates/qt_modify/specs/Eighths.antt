@@ -1,6 +1,6 @@
--- The angles of primitives in numbers of π/4 (OpenQASM 3.0 live specification, "Gates", built-in gates; Cross et al. 2022; that all angles are
--- multiples of π/4 is this profile's). A call is refused with the first fixed angle that is none: in the order of its primitives, then of θ,
--- φ, λ.
+-- The angles of primitives in numbers of π/4 (OpenQASM 3.0 live specification, "Gates", built-in gates; Cross et al. 2022; that all
+-- angles are multiples of π/4 is this profile's). A call is refused with the first fixed angle that is none: in the order of its
+-- primitives, then of θ, φ, λ.
 use Rattle.std.specs.Prelude.{◌≡◌, ℤ, List, [], ◌∷◌, map, Option, Some, None, unwrap_or, Result, Ok, Err}
 use Rattle.qt_phase.specs.Phase.{eighth_of}
 use Rattle.qt_gate_calls.specs.Faults.{unless_eighth, or_later}

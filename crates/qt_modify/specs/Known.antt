@@ -14,4 +14,5 @@ flags_of table number = get_or table number []
 
 -- the table has for each gate which of its parameters are needed
 abbrev pub KnowsNeeds : List GateBody → List (List Bool) → Type 0
-KnowsNeeds gates table = (number i : ℕ) → number < length gates → flag_at (flags_of table number) i ≡ needs_in (expansions_of gates) number i
+KnowsNeeds gates table = (number i : ℕ) → number < length gates
+    → flag_at (flags_of table number) i ≡ needs_in (expansions_of gates) number i

@@ -1,5 +1,5 @@
--- On which parameters of a gate an angle of its primitives depends (OpenQASM 3.0 live specification, "Gates", hierarchically defined unitary
--- gates and quantum gate modifiers; Cross et al. 2022). An angle depends on the parameters that stand in it.
+-- On which parameters of a gate an angle of its primitives depends (OpenQASM 3.0 live specification, "Gates", hierarchically defined
+-- unitary gates and quantum gate modifiers; Cross et al. 2022). An angle depends on the parameters that stand in it.
 use Rattle.std.specs.Prelude.{ℕ, zero, suc, pos, negsuc, Bool, true, false, not, ◌&&◌, ◌||◌, List, [], ◌∷◌, get_or}
 use Rattle.std.specs.List.{list_any}
 use Rattle.qt_gate_calls.specs.declared.angle.Angle.{Angle}

@@ -1,6 +1,6 @@
--- Reckoning the angles in the bodies of gates (OpenQASM 3.0 live specification, "Gates", hierarchically defined unitary gates, and "Types and
--- Casting", angles; Cross et al. 2022; work cells are this profile's). What is fixed is reckoned at once; each other operator is one step,
--- whose result goes to the next work cell.
+-- Reckoning the angles in the bodies of gates (OpenQASM 3.0 live specification, "Gates", hierarchically defined unitary gates, and "Types
+-- and Casting", angles; Cross et al. 2022; work cells are this profile's). What is fixed is reckoned at once; each other operator is one
+-- step, whose result goes to the next work cell.
 use Rattle.std.specs.Prelude.{ℕ, ◌+◌, pos, List, [], ◌∷◌, ◌++◌, length, get_or, Some, None}
 use Rattle.qt_gate_calls.specs.declared.angle.Angle.{Angle}
 use Rattle.qt_gate_calls.specs.declared.angle.Angle.TheOpen as form

@@ -40,7 +40,8 @@ fn all_reckoned(
     angles: &[Angle],
     steps: &mut Steps,
 ) -> Result<Items<Argument>, AllocError>
-    ensures { IfOk result (λ of. all_reckoned (flag_at wants.now) given.now 0 angles.now steps.old ≡ record { steps = steps.new; angles = of }) }
+    ensures { IfOk result (λ of. all_reckoned (flag_at wants.now) given.now 0 angles.now steps.old
+        ≡ record { steps = steps.new; angles = of }) }
 {
     let mut arguments = Items::new(alloc);
     for (number, angle) in angles.iter().enumerate() {

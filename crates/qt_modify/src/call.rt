@@ -167,8 +167,8 @@ fn unit_expansion(
     qubits: &[QubitRef],
     steps: &mut Steps,
 ) -> Result<Items<UnitPrimitive>, AllocError>
-    ensures { IfOk result (λ primitives. call_expansion (expansions_of used.now.gates) used.now.modifiers used.now.gate arguments.now no_controls
-        qubits.now steps.old ≡ record { steps = steps.new; primitives = primitives }) }
+    ensures { IfOk result (λ primitives. call_expansion (expansions_of used.now.gates) used.now.modifiers used.now.gate arguments.now
+        no_controls qubits.now steps.old ≡ record { steps = steps.new; primitives = primitives }) }
 {
     let gates = reached(used.gates.bodies(), used.gate);
     let needs = needs_of(alloc, gates)?;

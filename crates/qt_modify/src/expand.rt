@@ -31,8 +31,8 @@ pub fn call_expansion(
     steps: &mut Steps,
 ) -> Result<Items<UnitPrimitive>, AllocError>
     requires { KnowsNeeds gates.now needs.now }
-    ensures { IfOk result (λ primitives. spec.call_expansion (expansions_of gates.now) modifiers.now gate arguments.now controls.now qubits.now
-        steps.old ≡ record { steps = steps.new; primitives = primitives }) }
+    ensures { IfOk result (λ primitives. spec.call_expansion (expansions_of gates.now) modifiers.now gate arguments.now controls.now
+        qubits.now steps.old ≡ record { steps = steps.new; primitives = primitives }) }
 {
     if are_idle(modifiers) {
         return Ok(Items::new(alloc));

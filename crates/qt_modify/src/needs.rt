@@ -179,8 +179,8 @@ fn body_needs(
     Ok(flags)
 }
 
-/// For each gate the flags of its parameters on which an angle of a primitive depends. OpenQASM 3.0, "Gates", hierarchically defined unitary
-/// gates.
+/// For each gate the flags of its parameters on which an angle of a primitive depends. OpenQASM 3.0, "Gates", hierarchically defined
+/// unitary gates.
 #[tactic(auto, using(crate::proofs::Tables::none_known, crate::proofs::Tables::one_more_known))]
 pub fn needs_of(alloc: Global, gates: &[GateBody]) -> Result<Items<Items<bool>>, AllocError>
     ensures { IfOk result (λ needs. KnowsNeeds gates.now needs) }

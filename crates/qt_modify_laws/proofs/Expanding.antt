@@ -207,7 +207,8 @@ no_flag (suc i) e = false_true e
 
 module _ (cells : Cells) (place : QubitRef → ℕ) (z : place no_qubit ≡ 0) (e : GateExpansions) (ps : GatePrimitives)
     (h : AllExpand cells place e ps) where
-  called_meets : (gate : Called) (given : List Argument) (known : List KnownUnits) → Agree cells (called_needs (needs_in e) gate) given known
+  called_meets : (gate : Called) (given : List Argument) (known : List KnownUnits)
+      → Agree cells (called_needs (needs_in e) gate) given known
       → Meets cells place (called_expansion e gate given) (called_primitives ps gate known)
   called_meets called.U given known a = record {
     means = λ cs qs steps k. (
@@ -220,7 +221,8 @@ module _ (cells : Cells) (place : QubitRef → ℕ) (z : place no_qubit ≡ 0) (
           ∙ ap (λ t. Turned (map place cs.ones) (map place cs.zeros) (first 0 (map place qs)) (nth_known 0 known) t
           (angle_at cells (angle_of (argument_at 2 given))) ∷ [])
           (angle_at-of cells (argument_at 1 given) ∙ a 1 refl)
-          ∙ ap (λ t. Turned (map place cs.ones) (map place cs.zeros) (first 0 (map place qs)) (nth_known 0 known) (nth_known 1 known) t ∷ [])
+          ∙ ap (λ t. Turned (map place cs.ones) (map place cs.zeros) (first 0 (map place qs)) (nth_known 0 known)
+          (nth_known 1 known) t ∷ [])
           (angle_at-of cells (argument_at 2 given) ∙ a 2 refl),
       k,
     );
@@ -246,7 +248,8 @@ module _ (cells : Cells) (place : QubitRef → ℕ) (z : place no_qubit ≡ 0) (
   pub call_grows : (ms : List GateModifier) (gate : Called) (given : List Argument) → Grows cells (call_expansion e ms gate given)
   call_grows ms gate given = call_if_grows cells (are_idle ms) ms (called_expansion e gate given) (called_grows gate given)
 
-  called_needed : (gate : Called) (known : List KnownUnits) (cs : ControlsOf ℕ) (qs : List ℕ) → HaveKnown (called_primitives ps gate known cs qs)
+  called_needed : (gate : Called) (known : List KnownUnits) (cs : ControlsOf ℕ) (qs : List ℕ)
+      → HaveKnown (called_primitives ps gate known cs qs)
       → (i : ℕ) → called_needs (needs_in e) gate i ≡ true → IsKnown (nth_known i known)
   called_needed called.U known cs qs k zero n = k.0.0
   called_needed called.U known cs qs k (suc zero) n = k.0.1
@@ -263,7 +266,8 @@ module _ (cells : Cells) (place : QubitRef → ℕ) (z : place no_qubit ≡ 0) (
   pub call_meets_by : (ms : List GateModifier) (gate : Called) (given : List Argument) (known : List KnownUnits) (idle : Bool)
       → are_idle ms ≡ idle → ((i : ℕ) → wanted (needs_in e) ms gate i ≡ true → held_in cells (argument_at i given) ≡ nth_known i known)
       → Meets cells place (call_if idle ms (called_expansion e gate given)) (call_primitives ps ms gate known)
-  call_meets_by ms gate given known true i agree = idle_meets cells place ms (called_expansion e gate given) (called_primitives ps gate known) i
+  call_meets_by ms gate given known true i agree = idle_meets cells place ms (called_expansion e gate given)
+      (called_primitives ps gate known) i
   call_meets_by ms gate given known false i agree =
       busy_meets cells place z ms (called_expansion e gate given) (called_primitives ps gate known) i
       (called_meets gate given known (λ n c. agree n (wanted_if ms gate n i c)))
@@ -321,7 +325,8 @@ abbrev pub KnownValues : (ℕ → Bool) → ℕ → List KnownUnits → Type 0
 KnownValues want j values = (i : ℕ) → want (j + i) ≡ true → IsKnown (nth_known i values)
 
 -- the arguments from the one with the number j on
-pub record ManyTied (cells : Cells) (want : ℕ → Bool) (given : List Argument) (known : List KnownUnits) (j : ℕ) (angles : List Angle) : Type 0 where
+pub record ManyTied (cells : Cells) (want : ℕ → Bool) (given : List Argument) (known : List KnownUnits) (j : ℕ)
+    (angles : List Angle) : Type 0 where
   pub means : Agree cells (angles_need want j angles) given known → (steps : Steps)
       → Holds cells (all_reckoned want given j angles steps).steps
       → HoldValues cells want j (all_reckoned want given j angles steps).angles (map (value known) angles) × Holds cells steps
@@ -461,7 +466,8 @@ module _ (cells : Cells) (place : QubitRef → ℕ) (z : place no_qubit ≡ 0) (
             let first_part : Holds cells args.steps =
             (call_grows cells place z e ps h c.modifiers c.gate args.angles).before cs (picked no_qubit qs c.qubits) args.steps k in
             let held_args : HoldValues cells want 0 args.angles angles × Holds cells steps = many.means agree steps first_part in
-            let within : Meets cells place (call_expansion e c.modifiers c.gate args.angles) (call_primitives ps c.modifiers c.gate angles) =
+            let within : Meets cells place (call_expansion e c.modifiers c.gate args.angles)
+            (call_primitives ps c.modifiers c.gate angles) =
             call_meets_by cells place z e ps h c.modifiers c.gate args.angles angles (are_idle c.modifiers) refl
             (λ i w. held_args.0 i (zero_first want i w)) in (
               (within.means cs (picked no_qubit qs c.qubits) args.steps k).0
@@ -473,18 +479,21 @@ module _ (cells : Cells) (place : QubitRef → ℕ) (z : place no_qubit ≡ 0) (
             let first_part : Holds cells args.steps =
             (call_grows cells place z e ps h c.modifiers c.gate args.angles).before cs (picked no_qubit qs c.qubits) args.steps k in
             let held_args : HoldValues cells want 0 args.angles angles × Holds cells steps = many.means agree steps first_part in
-            let within : Meets cells place (call_expansion e c.modifiers c.gate args.angles) (call_primitives ps c.modifiers c.gate angles) =
+            let within : Meets cells place (call_expansion e c.modifiers c.gate args.angles)
+            (call_primitives ps c.modifiers c.gate angles) =
             call_meets_by cells place z e ps h c.modifiers c.gate args.angles angles (are_idle c.modifiers) refl
             (λ i w. held_args.0 i (zero_first want i w)) in
             within.sound cs (picked no_qubit qs c.qubits) args.steps k
             (subst (λ (rs : List ℕ). HaveKnown (call_primitives ps c.modifiers c.gate angles (controls_at place cs) rs))
             (sym (map-picked place no_qubit 0 qs c.qubits z)) l)
             (many.sound agree steps first_part
-            (λ i w. call_needed c.modifiers c.gate angles (controls_at place cs) (picked 0 (map place qs) c.qubits) l i (zero_gone want i w)) s);
+            (λ i w. call_needed c.modifiers c.gate angles (controls_at place cs) (picked 0 (map place qs) c.qubits) l i
+            (zero_gone want i w)) s);
       }
 
 -- a body's calls from one on
-pub record CallsMeet (cells : Cells) (place : QubitRef → ℕ) (e : GateExpansions) (ps : GatePrimitives) (calls : List BodyCall) : Type 0 where
+pub record CallsMeet (cells : Cells) (place : QubitRef → ℕ) (e : GateExpansions) (ps : GatePrimitives)
+    (calls : List BodyCall) : Type 0 where
   pub meets : (given : List Argument) (known : List KnownUnits) → Agree cells (calls_need (needs_in e) calls) given known
       → Meets cells place (calls_expansion e calls given) (calls_primitives ps calls known)
   pub needed : (known : List KnownUnits) (cs : ControlsOf ℕ) (qs : List ℕ) → HaveKnown (calls_primitives ps calls known cs qs) → (i : ℕ)
@@ -610,5 +619,6 @@ steps_are_needed cells place z used given qs first h k =
 pub fixed_angles_are_known : FixedAnglesAreKnown
 fixed_angles_are_known place z used given qs first =
     expansions_are_primitives none_known place z used given qs first
-    ((call_grows none_known place z _ _ (gates_expand none_known place z used.gates) used.modifiers used.gate given).none typed_calls.no_controls qs
+    ((call_grows none_known place z _ _ (gates_expand none_known place z used.gates) used.modifiers used.gate given).none
+    typed_calls.no_controls qs
     (record { first = first; steps = [] }) tt)

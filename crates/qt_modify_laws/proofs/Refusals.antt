@@ -31,12 +31,15 @@ action_wrong place ones zeros (Turn q theta phi lambda) later =
     or_assoc (wrong_angle theta) (or_later (wrong_angle phi) (wrong_angle lambda)) (faults.first_wrong later)
     ∙ ap (or_later (wrong_angle theta)) (or_assoc (wrong_angle phi) (wrong_angle lambda) (faults.first_wrong later))
     ∙ ap (λ t. or_later t (or_later (wrong_angle phi) (or_later (wrong_angle lambda) (faults.first_wrong later)))) (wrong_at theta)
-    ∙ ap (λ t. or_later (wrong (angle_at none_known theta)) (or_later t (or_later (wrong_angle lambda) (faults.first_wrong later)))) (wrong_at phi)
-    ∙ ap (λ t. or_later (wrong (angle_at none_known theta)) (or_later (wrong (angle_at none_known phi)) (or_later t (faults.first_wrong later))))
+    ∙ ap (λ t. or_later (wrong (angle_at none_known theta)) (or_later t (or_later (wrong_angle lambda) (faults.first_wrong later))))
+    (wrong_at phi)
+    ∙ ap (λ t. or_later (wrong (angle_at none_known theta)) (or_later (wrong (angle_at none_known phi))
+    (or_later t (faults.first_wrong later))))
     (wrong_at lambda)
 action_wrong place ones zeros (Phase gamma) later = ap (λ t. or_later t (faults.first_wrong later)) (wrong_at gamma)
 
-same_refusal : (place : QubitRef → ℕ) (ps : List UnitPrimitive) → first_wrong ps ≡ faults.first_wrong (map (primitive_at place none_known) ps)
+same_refusal : (place : QubitRef → ℕ) (ps : List UnitPrimitive)
+    → first_wrong ps ≡ faults.first_wrong (map (primitive_at place none_known) ps)
 same_refusal place [] = refl
 same_refusal place (p ∷ ps) =
     ap (or_later (wrong_action p.action)) (same_refusal place ps)
@@ -44,4 +47,5 @@ same_refusal place (p ∷ ps) =
 
 pub refusal_is_first_wrong : RefusalIsFirstWrong
 refusal_is_first_wrong place z used given qs first =
-    same_refusal place (use_expansion used given qs first).primitives ∙ ap faults.first_wrong (fixed_angles_are_known place z used given qs first)
+    same_refusal place (use_expansion used given qs first).primitives ∙ ap faults.first_wrong
+    (fixed_angles_are_known place z used given qs first)

@@ -1,5 +1,5 @@
--- What the steps and primitives of an expansion stand for (OpenQASM 3.0 live specification, "Gates"; Cross et al. 2022; steps and work cells
--- are this profile's): where the work cells hold what the steps give, its primitives are those of the call.
+-- What the steps and primitives of an expansion stand for (OpenQASM 3.0 live specification, "Gates"; Cross et al. 2022; steps and work
+-- cells are this profile's): where the work cells hold what the steps give, its primitives are those of the call.
 use Rattle.std.specs.Prelude.{◌≡◌, ℕ, suc, Bool, if◌then◌else◌, List, [], ◌∷◌, length, map, Some, None}
 use Rattle.qt_gate_calls.specs.Units.{KnownUnits, opposite}
 use Rattle.qt_gate_calls.specs.Primitives.{Turned, Phased, Primitive, no_controls, call_primitives, primitives_of}
@@ -110,4 +110,5 @@ RefusalIsFirstWrong =
 abbrev pub ExpansionsHaveTheirCount : Type 0
 ExpansionsHaveTheirCount =
     (used : GateUse) (given : List Argument) (qs : List QubitRef) (first : ℕ)
-    → stopped (length (use_expansion used given qs first).primitives) ≡ stopped (call_count (primitive_counts used.gates) used.modifiers used.gate)
+    → stopped (length (use_expansion used given qs first).primitives) ≡ stopped
+    (call_count (primitive_counts used.gates) used.modifiers used.gate)

@@ -1,5 +1,6 @@
 //! The laws. The function does nothing: what it promises are the laws.
-ghost use Rattle.qt_modify_laws.specs.Laws.{ExpansionsArePrimitives, ExpansionsHaveTheirCount, StepsAreNeeded, FixedAnglesAreKnown, RefusalIsFirstWrong};
+ghost use Rattle.qt_modify_laws.specs.Laws.{ExpansionsArePrimitives, ExpansionsHaveTheirCount};
+ghost use Rattle.qt_modify_laws.specs.Laws.{StepsAreNeeded, FixedAnglesAreKnown, RefusalIsFirstWrong};
 
 /// Where the work cells hold what the steps of an expansion give, its primitives are those of the call; where each angle of them is known,
 /// no step faults. What is fixed is what is known before the run, and a call is refused for the first such angle that is no multiple of

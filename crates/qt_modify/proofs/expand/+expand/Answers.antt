@@ -15,7 +15,8 @@ calls_expansion-loop-call-preserved t c =
 pub gate_expansion-calls_expansion-requires : goal.gate_expansion-calls_expansion-requires
 gate_expansion-calls_expansion-requires t c =
     let gates = c.args.gates.now in
-    let there : c.args.number < length gates = inside gates c.args.number c.in-Some.body.now (sym c.at.ensures ∙ ap option_copied c.in-Some.is) in
+    let there : c.args.number < length gates = inside gates c.args.number c.in-Some.body.now
+    (sym c.at.ensures ∙ ap option_copied c.in-Some.is) in
     let falls : length (take c.args.number gates) < length gates = fewer gates c.args.number there in
     (search rules, known_before gates c.args.number c.args.needs.now c.requires)
 
