@@ -18,7 +18,7 @@ use sqlite_items::{Boxed, Items};
 use std::alloc::Global;
 
 /// A statement that does something when it runs.
-pub(crate) fn simple(
+pub fn simple(
     alloc: Global,
     at: Spot,
     action: TypedAction,
@@ -111,7 +111,7 @@ pub(crate) fn looped(
 
 /// Adds a statement to those before it, where it does something when it runs.
 #[tactic(auto, unfolding(qt_typing::specs::Statements::added))]
-pub(crate) fn add(
+pub fn add(
     done: &mut Items<TypedStatement>,
     typed: Option<Boxed<TypedStatement>>,
 ) -> Result<(), OutOfMemory>

@@ -1,13 +1,14 @@
 -- The typing of a program (OpenQASM 3.0 live specification, "Version string", "Input/output", "Included files" and "Scoping of
 -- variables"; Cross et al. 2022): its versions, then its items in the order of text, then how many qubits and slots it has. `items_built`
 -- says of which programs.
-use Rattle.std.specs.Prelude.{ℕ, ◌+◌, nat_eq, nat_lt, ◌&&◌, ◌||◌, Bool, true, false, not, codes, if◌then◌else◌, List, [], ◌∷◌, ◌++◌, Option, Some, None, Ok, Err}
+use Rattle.std.specs.Prelude.{ℕ, ◌+◌, nat_eq, nat_lt, ◌&&◌, Bool, true, false, not, codes, if◌then◌else◌, List, [], ◌∷◌, ◌++◌, Option, Some, None, Ok, Err}
 use Rattle.std.specs.Cmp.Lexicographic.{pointwise}
 use Rattle.qt_gate_calls.specs.Standard.{standard_bodies}
 use Rattle.qt_gate_calls.specs.declared.body.GateBody.{GateBody}
 use Rattle.qt_names.specs.Entries.{Name}
 use Rattle.qt_tree.specs.declared.expression.Scalar.{Scalar}
 use Rattle.qt_tree.specs.declared.place.Place.{Place}
+use Rattle.qt_tree.specs.declared.program.ArrayItem.{ArrayItem}
 use Rattle.qt_tree.specs.declared.program.Definition.{Definition}
 use Rattle.qt_tree.specs.declared.program.Item.{Item}
 use Rattle.qt_tree.specs.declared.program.Item.TheVariants as item
@@ -17,11 +18,6 @@ use Rattle.qt_tree.specs.declared.program.VersionNumber.{VersionNumber}
 use Rattle.qt_tree.specs.declared.program.VersionNumber.TheVariants as version
 use Rattle.qt_tree.specs.declared.label.Setting.{Setting}
 use Rattle.qt_tree.specs.declared.refusal.TextRefusal.TheVariants as refusal
-use Rattle.qt_tree.specs.declared.statement.Statement.{Statement}
-use Rattle.qt_tree.specs.declared.statement.StatementForm.{StatementForm}
-use Rattle.qt_tree.specs.declared.statement.StatementForm.TheOpen as s
-use Rattle.qt_tree.specs.declared.statement.StatementForm.TheOpen.{StatementForm-F, Statement-F}
-use Rattle.qt_tree.specs.declared.statement.StatementForm.TheFolds.{fold-Statement}
 use Rattle.qt_typed.specs.Size.{size_of}
 use Rattle.qt_typed.specs.declared.program.Typed.{Typed}
 use Rattle.qt_typed.specs.declared.program.StartValue.{StartValue}
@@ -44,34 +40,11 @@ use Rattle.qt_typing.specs.Subroutines.{definition}
 
 -- ---- of which programs the typing is defined so far: no other text is included
 
-abbrev pub all_built : List Bool → Bool
-all_built [] = true
-all_built (built ∷ rest) = built && all_built rest
-
-abbrev pub optional_built : Option (List Bool) → Bool
-optional_built None = true
-optional_built (Some body) = all_built body
-
-abbrev pub form_built : StatementForm-F Bool Bool → Bool
-form_built (s.If condition body otherwise) = all_built body && optional_built otherwise
-form_built (s.While condition body) = all_built body
-form_built (s.For scalar name values body) = all_built body
-form_built _ = true
-
-abbrev pub statement_built : Statement → Bool
-statement_built = fold-Statement Bool Bool form_built (λ statement. statement.form)
-
-abbrev pub statements_built : List Statement → Bool
-statements_built [] = true
-statements_built (statement ∷ rest) = statement_built statement && statements_built rest
-
 abbrev pub is_standard : Name → Bool
 is_standard name = pointwise nat_eq name (codes "stdgates.inc")
 
 abbrev pub item_built : Item → Bool
 item_built (item.Include place name) = is_standard name
-item_built (item.Definition d) = statements_built d.body
-item_built (item.Statement statement) = statement_built statement
 item_built _ = true
 
 unfoldable pub items_built : List Item → Bool
@@ -114,18 +87,18 @@ counted n typing = silent (typing >>= (λ _. count_tokens n))
 abbrev pub at_top : Around
 at_top = record { in_loop = false; returns = returns.Nowhere }
 
+abbrev pub array_typing : ArrayItem → Typing (Option TypedStatement)
+array_typing a =
+    simple (record { place = a.place; tokens = array_tokens a.scalar a.dimensions a.value })
+    (array_of a.place a.scalar a.dimensions a.name a.value)
+
 unfoldable pub item_typing : Item → Typing (Option TypedStatement)
 item_typing (item.Include place name) = if is_standard name then silent include_standard else not_yet place
 item_typing (item.Input place scalar name) = counted (io_tokens scalar) (input_of place scalar name)
 item_typing (item.Output place scalar name) = counted (io_tokens scalar) (output_of place scalar name)
 item_typing (item.Qubit place size name) = counted (qubit_tokens size) (qubit_declaration place size name)
 item_typing (item.QubitRegister place name size) = counted (qubit_tokens size) (qubit_register place name size)
-item_typing (item.Array a) =
-    simple (record {
-      place =
-          a.place;
-      tokens = array_tokens a.scalar a.dimensions a.value;
-    }) (array_of a.place a.scalar a.dimensions a.name a.value)
+item_typing (item.Array a) = array_typing a
 item_typing (item.Gate gate) = silent (gate_item gate)
 item_typing (item.Definition d) = silent (definition d)
 item_typing (item.Statement statement) = statement_typing statement at_top
@@ -168,8 +141,8 @@ abbrev pub outputs_of : List TypedOutput → List TypedOutput → List TypedOutp
 outputs_of [] variables = variables
 outputs_of (output ∷ rest) variables = output ∷ rest
 
-abbrev pub unsized : Place → State → List TypedStatement → List StartValue → Typed
-unsized end s body start = record {
+abbrev pub without_size : Place → State → List TypedStatement → List StartValue → Typed
+without_size end s body start = record {
   qubits = told s.qubits;
   slots = s.slots;
   size = 0;
@@ -183,7 +156,7 @@ unsized end s body start = record {
 
 -- the size counts the tokens of declarations that don't run as well
 unfoldable pub program_at : Place → State → List TypedStatement → List StartValue → Typed
-program_at end s body start = record (unsized end s body start) { size = told (s.tokens + size_of (unsized end s body start)) }
+program_at end s body start = record (without_size end s body start) { size = told (s.tokens + size_of (without_size end s body start)) }
 
 unfoldable pub numbers_fit : State → Checked (Unit {0})
 numbers_fit s =
