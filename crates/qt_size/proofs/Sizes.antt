@@ -1,5 +1,6 @@
--- Sizes that stop: a stop inside a sum or a product isn't seen outside, and what a program counts follows from stopped sizes of its subroutines.
-use Rattle.std.proofs.Common.{◌≡◌, ℕ, zero, suc, ◌+◌, ◌-◌, ◌*◌, ◌<◌, ◌≤◌, List, [], ◌∷◌, ◌++◌, length, take, get_or, Option, Some, None, refl, sym, ap, subst, ◌∙◌, arith, inl, inr, ◌⊎◌, length-take}
+-- Sizes that stop: a stop inside a sum or a product isn't seen outside, and the size of a program follows from the stopped sizes of its
+-- subroutines.
+use Rattle.std.proofs.Common.{◌≡◌, ℕ, zero, suc, ◌+◌, ◌*◌, ◌<◌, ◌≤◌, List, [], ◌∷◌, ◌++◌, length, take, get_or, Option, Some, None, refl, sym, ap, subst, ◌∙◌, arith, inl, inr, ◌⊎◌, length-take}
 use Rattle.std.proofs.lemmas.Bool.{cases_lt}
 use Rattle.std.proofs.lemmas.List.{take_more}
 use Rattle.std.proofs.lemmas.Option.{unwrap_or-slice_get}
@@ -14,7 +15,7 @@ use Rattle.qt_typed.specs.declared.statement.TypedAction.TheVariants as action
 use Rattle.qt_typed.specs.declared.statement.TypedStatement.{TypedStatement, Row_of-TypedStatement, end_of-TypedStatement, more_of-TypedStatement}
 use Rattle.qt_typed.specs.declared.statement.TypedStatement.TheVariants.{Simple, If', Loop'}
 use Rattle.qt_typed.specs.Choices.{Counts}
-use Rattle.qt_typed.specs.Size.{use_size, right_size, optional_size, action_size, size, row_size, list_size, sizes_from}
+use Rattle.qt_typed.specs.Size.{right_size, optional_size, action_size, size, row_size, list_size, sizes_from}
 use Rattle.qt_size.specs.Known.{sizes_in, AreKnown}
 
 -- ---- sums and products
@@ -96,7 +97,8 @@ module _ (y z : Counts) (h : Stop y z) where
     size_meets (Simple at action) = sum_stopped at.tokens (action_size y action) at.tokens (action_size z action) refl (action_meets action)
     size_meets (If' at condition k body body_slots m otherwise otherwise_slots) =
         sum_stopped at.tokens (row_size y body + row_size y otherwise) at.tokens (row_size z body + row_size z otherwise) refl
-        (sum_stopped (row_size y body) (row_size y otherwise) (row_size z body) (row_size z otherwise) (row_meets body) (row_meets otherwise))
+        (sum_stopped (row_size y body) (row_size y otherwise) (row_size z body) (row_size z otherwise) (row_meets body)
+        (row_meets otherwise))
     size_meets (Loop' at over loop_slots k body body_slots) =
         sum_stopped at.tokens (row_size y body) at.tokens (row_size z body) refl (row_meets body)
 
@@ -108,6 +110,12 @@ module _ (y z : Counts) (h : Stop y z) where
   list_meets : (ss : List TypedStatement) → stopped (list_size y ss) ≡ stopped (list_size z ss)
   list_meets [] = refl
   list_meets (s ∷ ss) = sum_stopped (size y s) (list_size y ss) (size z s) (list_size z ss) (size_meets s) (list_meets ss)
+
+-- where no statement is left
+pub counted : (z : Counts) (size : ℕ) (left : List TypedStatement) (whole : ℕ) → length left < 1 → size ≤ 4294967295
+    → stopped (size + list_size z left) ≡ stopped whole → size ≡ stopped whole
+counted z size [] whole few small is = sym (all_counted size small) ∙ is
+counted z size (s ∷ left) whole few small is = absurd (omega (arith, few))
 
 -- ---- subroutines by number, with one more behind them
 
@@ -135,6 +143,15 @@ last_size n (s ∷ subroutines) last z i =
     let e : suc n + length subroutines ≡ n + length (s ∷ subroutines) = omega arith in
     last_size (suc n) subroutines last later i
     ∙ ap (λ t. if_number t i (list_size (sizes_from (suc n) subroutines later) last.body) (sizes_from (suc n) subroutines later i)) e
+
+length_behind : (known : List ℕ) (x : ℕ) → length (known ++ x ∷ []) ≡ length known + 1
+length_behind [] x = refl
+length_behind (y ∷ known) x =
+    let h : length (known ++ x ∷ []) ≡ length known + 1 = length_behind known x in
+    omega (arith, h)
+
+pub one_longer : (known new : List ℕ) (x i : ℕ) → new ≡ known ++ x ∷ [] → length known ≡ i → length new ≡ i + 1
+one_longer known new x i is l = ap length is ∙ (length_behind known x ∙ ap (λ n. n + 1) l)
 
 pub none_known : (subroutines : List TypedSubroutine) → AreKnown (take 0 subroutines) []
 none_known subroutines = λ i. refl
@@ -170,18 +187,3 @@ one_more_known subroutines i subroutine known new x h b l are e w =
 pub size_by_known : (subroutines : List TypedSubroutine) (known : List ℕ) (body : List TypedStatement) → AreKnown subroutines known
     → stopped (list_size (sizes_in known) body) ≡ stopped (list_size (sizes_from 0 subroutines (λ i. 0)) body)
 size_by_known subroutines known body are = list_meets (sizes_in known) (sizes_from 0 subroutines (λ i. 0)) are body
-
--- where no statement is left
-pub counted : (z : Counts) (size : ℕ) (left : List TypedStatement) (whole : ℕ) → length left < 1 → size ≤ 4294967295
-    → stopped (size + list_size z left) ≡ stopped whole → size ≡ stopped whole
-counted z size [] whole few small is = sym (all_counted size small) ∙ is
-counted z size (s ∷ left) whole few small is = absurd (omega (arith, few))
-
-length_behind : (known : List ℕ) (x : ℕ) → length (known ++ x ∷ []) ≡ length known + 1
-length_behind [] x = refl
-length_behind (y ∷ known) x =
-    let h : length (known ++ x ∷ []) ≡ length known + 1 = length_behind known x in
-    omega (arith, h)
-
-pub one_longer : (known new : List ℕ) (x i : ℕ) → new ≡ known ++ x ∷ [] → length known ≡ i → length new ≡ i + 1
-one_longer known new x i is l = ap length is ∙ (length_behind known x ∙ ap (λ n. n + 1) l)

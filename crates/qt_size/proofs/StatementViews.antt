@@ -1,10 +1,9 @@
 -- The size of a statement by its bodies as lists.
-use Rattle.std.proofs.Common.{◌≡◌, ℕ, ◌+◌, List, [], ◌∷◌, refl, ap, sym, ◌∙◌, arith}
+use Rattle.std.proofs.Common.{◌≡◌, ℕ, ◌+◌, List, refl, ap, sym, ◌∙◌, arith}
 use Rattle.qt_gate_calls.specs.Stopped.{stopped}
 use Rattle.qt_typed.specs.declared.call.Span.{Span}
 use Rattle.qt_typed.specs.declared.expression.TypedExpr.{TypedExpr}
 use Rattle.qt_typed.specs.declared.statement.Spot.{Spot}
-use Rattle.qt_typed.specs.declared.statement.TypedAction.{TypedAction}
 use Rattle.qt_typed.specs.declared.statement.TypedLoop.{TypedLoop}
 use Rattle.qt_typed.specs.declared.statement.TypedStatement.{TypedStatement, Row_of-TypedStatement, end_of-TypedStatement, more_of-TypedStatement, items-the_row-TypedStatement, items_shown-the_row-TypedStatement-0, out-TypedStatement}
 use Rattle.qt_typed.specs.declared.statement.TypedStatement.TheVariants as t
@@ -36,29 +35,27 @@ module _ (z : Counts) where
       ap (λ n. at.tokens + n) (row_is body ∙ ap (list_size z) (sym (items_shown-the_row-TypedStatement-0 shape body)))
       ∙ ap of_layer (sym (t.outs-Loop' at over loop_slots shape body body_slots))
 
-  pub simple_size : (at : Spot) (action : TypedAction) → size z (t.Simple at action) ≡ at.tokens + action_size z action
-  simple_size at action = refl
-
-  pub branch_size : (at : Spot) (condition : TypedExpr) (body : List TypedStatement) (body_slots : Span) (otherwise : List TypedStatement)
+  branch_size : (at : Spot) (condition : TypedExpr) (body : List TypedStatement) (body_slots : Span) (otherwise : List TypedStatement)
       (otherwise_slots : Span)
       → size z (t.If at condition body body_slots otherwise otherwise_slots) ≡ at.tokens + (list_size z body + list_size z otherwise)
   branch_size at condition body body_slots otherwise otherwise_slots =
       size_is (t.If at condition body body_slots otherwise otherwise_slots)
       ∙ ap of_layer (t.outs-If at condition body body_slots otherwise otherwise_slots)
 
-  pub loop_size : (at : Spot) (over : TypedLoop) (loop_slots : Span) (body : List TypedStatement) (body_slots : Span)
+  loop_size : (at : Spot) (over : TypedLoop) (loop_slots : Span) (body : List TypedStatement) (body_slots : Span)
       → size z (t.Loop at over loop_slots body body_slots) ≡ at.tokens + list_size z body
   loop_size at over loop_slots body body_slots =
       size_is (t.Loop at over loop_slots body body_slots) ∙ ap of_layer (t.outs-Loop at over loop_slots body body_slots)
 
   pub branch_counted : (s : TypedStatement) (at : Spot) (condition : TypedExpr) (body : List TypedStatement) (body_slots : Span)
-      (otherwise : List TypedStatement) (otherwise_slots : Span) (result : ℕ) → s ≡ t.If at condition body body_slots otherwise otherwise_slots
+      (otherwise : List TypedStatement) (otherwise_slots : Span) (result : ℕ)
+      → s ≡ t.If at condition body body_slots otherwise otherwise_slots
       → result ≡ stopped (at.tokens + (list_size z body + list_size z otherwise)) → result ≡ stopped (size z s)
   branch_counted s at condition body body_slots otherwise otherwise_slots result is counted =
       counted ∙ ap stopped (sym (ap (size z) is ∙ branch_size at condition body body_slots otherwise otherwise_slots))
 
-  pub loop_counted : (s : TypedStatement) (at : Spot) (over : TypedLoop) (loop_slots : Span) (body : List TypedStatement) (body_slots : Span)
-      (result : ℕ) → s ≡ t.Loop at over loop_slots body body_slots → result ≡ stopped (at.tokens + list_size z body)
-      → result ≡ stopped (size z s)
+  pub loop_counted : (s : TypedStatement) (at : Spot) (over : TypedLoop) (loop_slots : Span) (body : List TypedStatement)
+      (body_slots : Span) (result : ℕ) → s ≡ t.Loop at over loop_slots body body_slots
+      → result ≡ stopped (at.tokens + list_size z body) → result ≡ stopped (size z s)
   loop_counted s at over loop_slots body body_slots result is counted =
       counted ∙ ap stopped (sym (ap (size z) is ∙ loop_size at over loop_slots body body_slots))

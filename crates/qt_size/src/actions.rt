@@ -1,7 +1,6 @@
 //! What statements without a body count beside their tokens.
 
 ghost use Rattle.std.specs.Prelude.{◌≡◌, ◌*◌};
-ghost use Rattle.std.specs.Option.{option_copied};
 ghost use Rattle.qt_gate_calls.specs.Stopped.{stopped};
 ghost use Rattle.qt_typed.specs.Size as spec;
 ghost use Rattle.qt_size.specs.Known.{sizes_in};

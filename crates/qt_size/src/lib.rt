@@ -4,7 +4,7 @@
 //! [`program::size_of`] is the definition of its name in `qt_typed`, up to 4,294,967,295. [`subroutines::subroutine_sizes`] counts each
 //! subroutine once, over those before it, so that a call isn't followed into a body; [`statements`] has the recursion over bodies.
 //!
-//! The check of whole programs calls it.
+//! No program calls it yet but the cases.
 #![tactic(auto)]
 
 pub mod actions;

@@ -37,7 +37,7 @@ fn branch_size(
     body: &[TypedStatement],
     otherwise: &[TypedStatement],
 ) -> u32
-    ensures { result ≡ stopped (tokens + (spec.list_size (sizes_in known.now) body.now + spec.list_size (sizes_in known.now) otherwise.now)) }
+    ensures { let of = spec.list_size (sizes_in known.now) in result ≡ stopped (tokens + (of body.now + of otherwise.now)) }
 {
     let bodies = list_size(known, body).saturating_add(list_size(known, otherwise));
     tokens.saturating_add(bodies)

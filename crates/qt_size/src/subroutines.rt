@@ -1,6 +1,6 @@
 //! The sizes of subroutines.
 
-ghost use Rattle.std.specs.Prelude.{◌≡◌, ℕ, IfOk};
+ghost use Rattle.std.specs.Prelude.{IfOk};
 ghost use Rattle.qt_size.specs.Known.{AreKnown};
 
 use crate::statements::list_size;

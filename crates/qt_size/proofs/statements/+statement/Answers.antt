@@ -6,8 +6,8 @@ use Rattle.qt_size.proofs.statements.+statement.Goals as goal
 
 pub list_size-returns : goal.list_size-returns
 list_size-returns t c =
-    counted (sizes_in c.args.known.now) c.statements.size c.statements.left.now (list_size (sizes_in c.args.known.now) c.args.statements.now)
-    c.in_default.len_below c.statements.invariant.2 c.statements.invariant.0
+    counted (sizes_in c.args.known.now) c.statements.size c.statements.left.now
+    (list_size (sizes_in c.args.known.now) c.args.statements.now) c.in_default.len_below c.statements.invariant.2 c.statements.invariant.0
 
 pub statement_size-returns-in-If : goal.statement_size-returns-in-If
 statement_size-returns-in-If t c =

@@ -16,10 +16,10 @@ decreases-list_size l = 3 * most size-TypedStatement l.statements.now + 1
 abbrev pub decreases-branch_size : goal.decreases-branch_size
 decreases-branch_size l = 3 * max (most size-TypedStatement l.body.now) (most size-TypedStatement l.otherwise.now) + 2
 
--- the size so far and that of the statements that are left are the whole
 abbrev pub decreases-loop_size : goal.decreases-loop_size
 decreases-loop_size l = 3 * most size-TypedStatement l.body.now + 2
 
+-- the size so far and that of the statements that are left are the whole
 abbrev pub invariant-list_size-statements : goal.invariant-list_size-statements
 invariant-list_size-statements l =
     (stopped (l.size + spec.list_size (sizes_in l.known) l.left) ≡ stopped (spec.list_size (sizes_in l.known) l.fn.statements))
