@@ -210,5 +210,17 @@ for name, arguments, operands, modifiers in [
 for wrong in ["expand", "expand nothing - 0", "expand x a 0", "expand x - b", "expand x - 256", "expand p 1152921504606846977 0", "expand x - 0 twice"]:
     rows.append(wrong)
     answers.append("no row")
+
+# the size of a program: its tokens, six primitives for each `swap`, and the sizes of the subroutines that it calls
+for tokens, places, behind in [(0, 0, 0), (1, 1, 0), (7, 5, 0), (7, 5, 1), (3, 4, 10), (4294967295, 1, 0), (0, 715827881, 0), (0, 715827882, 0),
+    (0, 4294967295, 3), (1, 0, 29), (0, 0, 255), (1, 0, 255)]:
+    of_subroutine = tokens + 6 * places
+    for _ in range(behind):
+        of_subroutine = tokens + 2 * (tokens + of_subroutine)
+    rows.append(f"program {tokens} {places} {behind}")
+    answers.append(f"size {min(4 * tokens + of_subroutine + 6, stop)}")
+for wrong in ["program", "program 1 1", "program 1 1 256", "program 1 4294967296 1", "program -1 1 1"]:
+    rows.append(wrong)
+    answers.append("no row")
 (here / "stdin").write_text("\n".join(rows) + "\n")
 (here / "stdout").write_text("\n".join(answers) + "\n")

@@ -11,14 +11,19 @@
 //! π/2^32 and OPERANDS numbers, with commas between, `?` for one of the run and `-` for none. The answer has the steps, with `wN` for the
 //! work cell N, and the primitives, each with its controls that are to be 1, those that are to be 0, its qubit and its angles in π/4; or
 //! the angle that it is refused for.
+//! A row `program T P N` is a program whose statements have T tokens each: a loop that calls the last of N + 1 subroutines, and one that
+//! isn't there, and a call of `swap`. The first subroutine calls `swap` at P places, and each other the one before it on either way of a
+//! branch. The answer is its size.
 //! A line that is no such row is answered with `no row`.
 //!
 //! `gate_cases.py` writes the rows and the answers that are wanted.
 #![tactic(auto)]
 
 mod expansions;
+mod programs;
 
 use crate::expansions::{arguments_in, operands_in, tell_call};
+use crate::programs::{BEGINNING, SWAP_ROW, sized_program};
 use qt_gate_calls::body::{BodyCall, Called, GateBodies, GateBody, GateModifier};
 use qt_gates::named::{ROWS, standard};
 use qt_gates::table::standard_bodies;
@@ -26,15 +31,12 @@ use qt_modify::counts::{operator_count, prim_count};
 use qt_rows::answer::Answer;
 use qt_rows::cases::{Cases, answer_lines};
 use qt_rows::row::Row;
-use qt_tree::place::Place;
+use qt_size::program::size_of;
 use qt_typed::call::{GateUse, TypedCall};
 use sqlite_items::Items;
 use std::alloc::{AllocError, Global};
 use std::io;
 use std::process::ExitCode;
-
-/// The number of `swap` in the table.
-const SWAP_ROW: u32 = 28;
 
 /// The number of the first gate behind the table.
 const FIRST_DECLARED: u32 = 32;
@@ -156,11 +158,7 @@ fn tell_counts(
     answer: &mut Answer,
 ) {
     let call = TypedCall {
-        place: Place {
-            file: 0,
-            line: 1,
-            column: 1,
-        },
+        place: BEGINNING,
         used: GateUse {
             gates,
             modifiers,
@@ -266,6 +264,25 @@ fn answer_chain(alloc: Global, row: &mut Row<'_>, answer: &mut Answer) {
     }
 }
 
+/// `program T P N`
+fn answer_program(alloc: Global, row: &mut Row<'_>, answer: &mut Answer) {
+    let (tokens, places, count) = (row.u32(), row.u32(), row.u8());
+    let Some(gates) = gates_with(alloc, Items::new(alloc), answer) else {
+        return;
+    };
+    let Some(program) = answer.given(sized_program(alloc, gates, tokens, places, count)) else {
+        return;
+    };
+    let size = size_of(
+        alloc,
+        program.subroutines.as_slice(),
+        program.body.as_slice(),
+    );
+    if let Some(size) = answer.given(size) {
+        write!(answer, "size {size}");
+    }
+}
+
 impl Cases for GateCases {
     fn answer(&mut self, alloc: Global, row: &mut Row<'_>, answer: &mut Answer) {
         match row.part(' ') {
@@ -275,6 +292,7 @@ impl Cases for GateCases {
             "count" => answer_count(alloc, row, answer),
             "chain" => answer_chain(alloc, row, answer),
             "expand" => answer_expand(alloc, row, answer),
+            "program" => answer_program(alloc, row, answer),
             _ => row.refuse(),
         }
     }
