@@ -70,6 +70,7 @@ fn write_canonical(alloc: Global, program: &Program, answer: &mut Answer) {
 pub fn format(alloc: Global, text: &str, answer: &mut Answer) {
     if let Some(program) = program_of(alloc, text, answer) {
         write_canonical(alloc, &program, answer);
+        program.discard();
     }
 }
 
@@ -116,6 +117,7 @@ fn write_same(alloc: Global, printed: &str, program: &Program, answer: &mut Answ
 fn write_again(alloc: Global, program: &Program, printed: &str, answer: &mut Answer) {
     if let Some(again) = found(read_back(alloc, program, 1), answer) {
         write_same(alloc, printed, &again, answer);
+        again.discard();
     }
 }
 
@@ -125,5 +127,6 @@ pub fn again(alloc: Global, text: &str, answer: &mut Answer) {
         if let Some(printed) = answer.given(print(alloc, &program)) {
             write_again(alloc, &program, printed.as_str(), answer);
         }
+        program.discard();
     }
 }

@@ -7,7 +7,7 @@ use qt_parse::parser::parse;
 use qt_read::read::read;
 use qt_rows::answer::Answer;
 use qt_rows::row::Row;
-use qt_tree_text::programs::{drop_program, write_program};
+use qt_tree_text::programs::write_program;
 use qt_tree_text::tree::{write_place, write_placed};
 use std::alloc::Global;
 
@@ -36,7 +36,7 @@ pub fn answer_parse(alloc: Global, text: &str, tokens: &[Token], answer: &mut An
 pub fn answer_outcome(alloc: Global, text: &str, tokens: &[Token], answer: &mut Answer) {
     match parse(alloc, text, tokens) {
         Ok(program) => {
-            drop_program(program);
+            program.discard();
             answer.push_str(" program");
         }
         Err(refusal) => write_refusal(refusal, answer),

@@ -4,8 +4,8 @@
 //! square brackets, and a part that isn't there is `none`. A place is the number of its text, its line and its column, with colons
 //! between. Each of them is written with a space before it, behind what stands in the answer.
 //!
-//! `Tree` is what is written so: expressions, statements, items and programs, and their parts. Whole programs are dropped here, by
-//! `write_program` and `drop_program`, so that their drop is proved once for those who call these.
+//! `Tree` is what is written so: expressions, statements, items and programs, and their parts. `write_program` writes a whole program
+//! and lets it go.
 #![tactic(auto)]
 
 mod expressions;

@@ -168,10 +168,8 @@ impl Tree for Program {
     }
 }
 
-/// Writes a program, and drops it.
+/// Writes a program, and lets it go.
 pub fn write_program(program: Program, answer: &mut Answer) {
     program.write(answer);
+    program.discard();
 }
-
-/// Drops a program.
-pub fn drop_program(_program: Program) {}
