@@ -1,6 +1,6 @@
 -- What `parse` answers for the tokens of a text: their program, or the token that is refused and why. OpenQASM 3.0, the grammar
 -- in the appendix of the live specification.
-use Rattle.std.specs.Prelude.{◌≡◌, ℕ, ◌⊎◌, List, Some, None}
+use Rattle.std.specs.Prelude.{◌≡◌, ◌≢◌, ℕ, ◌⊎◌, List, Some, None}
 use Rattle.qt_tree.specs.declared.place.Place.{Place}
 use Rattle.qt_tree.specs.declared.refusal.Feature.{Feature}
 use Rattle.qt_tree.specs.declared.refusal.Feature.TheVariants as f
@@ -37,3 +37,7 @@ module _ (all : List PlacedTerminal) where
   Refused (NotInProfile at feature) = (n : ℕ) × StopsAt n at × IsOfFeature n feature
   Refused (Nest at) = (n : ℕ) × TooDeepAt n at
   Refused OutOfMemory = Unit {0}
+
+  -- the tokens spell no program within the limits, and this is what `told` makes of the refusal of the token at fault
+  abbrev pub IsToldBy : {E : Type 0} → (ParseRefusal → E) → E → Type 0
+  IsToldBy told refusal = (why : ParseRefusal) × (why ≢ OutOfMemory) × Refused why × (refusal ≡ told why)

@@ -1,6 +1,6 @@
 -- When a text is that of a program, and why it is that of none: it is too long, or isn't UTF-8, or has no tokens, or its tokens
 -- spell no program. OpenQASM 3.0 live specification, "Comments" (a source file is UTF-8 text) and the grammar in its appendix.
-use Rattle.std.specs.Prelude.{◌≡◌, ◌≢◌, ℕ, ◌<◌, ◌≤◌, ◌⊎◌, List, length}
+use Rattle.std.specs.Prelude.{◌≡◌, ℕ, ◌<◌, ◌≤◌, ◌⊎◌, List, length}
 use Rattle.std.specs.Str.{IsUtf8, IsValidUpTo}
 use Rattle.qt_tree.specs.declared.place.Place.{Place}
 use Rattle.qt_tree.specs.declared.program.Program.{Program}
@@ -13,7 +13,7 @@ use Rattle.qt_grammar.specs.Spelling.{language_limits}
 use Rattle.qt_grammar.specs.Promise.{OnlyProgram}
 use Rattle.qt_lookahead.specs.declared.refusal.ParseRefusal.{ParseRefusal}
 use Rattle.qt_lookahead.specs.declared.refusal.ParseRefusal.TheVariants as p
-use Rattle.qt_parse.specs.Promise.{Refused}
+use Rattle.qt_parse.specs.Promise.{IsToldBy}
 
 -- the most bytes that a text may have
 abbrev pub most_bytes : ℕ
@@ -33,8 +33,7 @@ refusal_of p.OutOfMemory = r.OutOfMemory
 -- the tokens of a text spell no program within the limits, and this refusal tells the token at fault: it is too deep, or it is the
 -- stopper, of a feature that the profile leaves out or of none
 unfoldable pub IsStopped : List ℕ → List Token → TextRefusal → Type 0
-IsStopped text tokens refusal =
-    (why : ParseRefusal) × (why ≢ p.OutOfMemory) × Refused (terminals text tokens) why × (refusal ≡ refusal_of why)
+IsStopped text tokens refusal = IsToldBy (terminals text tokens) refusal_of refusal
 
 -- a text that isn't too long and is UTF-8 gives these tokens
 pub record HasTokens (file : ℕ) (text : List ℕ) (tokens : List Token) : Type 0 where

@@ -32,10 +32,10 @@ module _ (program : Program) (was : WasRead program) (file : ℕ) where
       refusal_same e = cc
 
   never_stopped : (refusal : Unread) → IsStopped file (canonical program) refusal → ⊥
-  never_stopped refusal (tokens, given, p.Syntax place, known, h, same) = never tokens given (Syntax h.0) (λ e. absurd (cc e)) h.1.stopper
-  never_stopped refusal (tokens, given, p.NotInProfile place feature, known, h, same) = never tokens given (Syntax h.0) (λ e. absurd (cc e)) h.1.stopper
-  never_stopped refusal (tokens, given, p.Nest place, known, h, same) = never tokens given (Nest h.0) (λ e. absurd (cc e)) h.1.first
-  never_stopped refusal (tokens, given, p.OutOfMemory, known, h, same) = absurd (known refl)
+  never_stopped refusal (tokens, given, (p.Syntax place, known, h, same)) = never tokens given (Syntax h.0) (λ e. absurd (cc e)) h.1.stopper
+  never_stopped refusal (tokens, given, (p.NotInProfile place feature, known, h, same)) = never tokens given (Syntax h.0) (λ e. absurd (cc e)) h.1.stopper
+  never_stopped refusal (tokens, given, (p.Nest place, known, h, same)) = never tokens given (Nest h.0) (λ e. absurd (cc e)) h.1.first
+  never_stopped refusal (tokens, given, (p.OutOfMemory, known, h, same)) = absurd (known refl)
 
   only_memory : (refusal : Unread) → IsUnread file (canonical program) refusal → refusal ≡ u.OutOfMemory
   only_memory u.Long long = let short = can_be_read was.text was.file was.read.0 program was.read.1 was.short in absurd (omega (arith, long, short))

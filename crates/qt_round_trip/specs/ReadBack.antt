@@ -1,12 +1,12 @@
 -- What reading the canonical text of a program answers, by the places of that text.
-use Rattle.std.specs.Prelude.{◌≡◌, ◌≢◌, ℕ, ◌^◌, ◌<◌, ◌≤◌, List, length}
+use Rattle.std.specs.Prelude.{◌≡◌, ℕ, ◌^◌, ◌<◌, ◌≤◌, List, length}
 use Rattle.qt_tree.specs.declared.program.Program.{Program}
 use Rattle.qt_lex.specs.declared.tokens.Token.{Token}
 use Rattle.qt_lex.specs.Tokens.{GivesTokens, FailsAt}
 use Rattle.qt_terminals.specs.Terminals.{terminals}
 use Rattle.qt_lookahead.specs.declared.refusal.ParseRefusal.{ParseRefusal}
 use Rattle.qt_lookahead.specs.declared.refusal.ParseRefusal.TheVariants as p
-use Rattle.qt_parse.specs.Promise.{Refused}
+use Rattle.qt_parse.specs.Promise.{IsToldBy}
 use Rattle.qt_round_trip.specs.declared.read_back.Unread.{Unread}
 use Rattle.qt_round_trip.specs.declared.read_back.Unread.TheVariants as u
 use Rattle.qt_round_trip.specs.Laws.{ReadsAs}
@@ -31,8 +31,7 @@ unread_of p.OutOfMemory = u.OutOfMemory
 
 -- the text gives tokens that spell no program within the limits, and this refusal tells the token at fault
 abbrev pub IsStopped : ℕ → List ℕ → Unread → Type 0
-IsStopped file text refusal = (tokens : List Token) × GivesTokens text file tokens
-    × (why : ParseRefusal) × (why ≢ p.OutOfMemory) × Refused (terminals text tokens) why × (refusal ≡ unread_of why)
+IsStopped file text refusal = (tokens : List Token) × GivesTokens text file tokens × IsToldBy (terminals text tokens) unread_of refusal
 
 -- why a text with that number isn't read, but for want of memory
 abbrev pub IsUnread : ℕ → List ℕ → Unread → Type 0
