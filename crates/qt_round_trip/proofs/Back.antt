@@ -8,9 +8,7 @@ use Rattle.qt_grammar.specs.declared.refusal.Refusal.{Refusal}
 use Rattle.qt_grammar.specs.declared.refusal.Refusal.TheVariants.{Syntax, Nest, OutOfMemory}
 use Rattle.qt_grammar.specs.Spelling.{language_limits}
 use Rattle.qt_grammar.specs.Promise.{Parses}
-use Rattle.qt_lookahead.specs.declared.refusal.ParseRefusal.{ParseRefusal}
 use Rattle.qt_lookahead.specs.declared.refusal.ParseRefusal.TheVariants as p
-use Rattle.qt_parse.specs.Promise.{Refused}
 use Rattle.qt_print.specs.Text.{canonical}
 use Rattle.qt_round_trip.specs.declared.read_back.Unread.{Unread}
 use Rattle.qt_round_trip.specs.declared.read_back.Unread.TheVariants as u

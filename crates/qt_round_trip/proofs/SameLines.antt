@@ -1,11 +1,10 @@
 -- Programs that are the same but for places have the same lines, and so the same canonical text.
-use Rattle.std.proofs.Common.{◌≡◌, List, [], ◌∷◌, ◌++◌, map, Option, Some, None, codes, refl, sym, ◌∙◌, ap, subst}
+use Rattle.std.proofs.Common.{◌≡◌, List, [], ◌∷◌, ◌++◌, map, Some, None, codes, refl, sym, ◌∙◌, ap, subst}
 use Rattle.qt_tree.specs.declared.statement.Statement.{Statement, roll-Statement}
 use Rattle.qt_tree.specs.declared.statement.StatementForm.{StatementForm, roll-StatementForm}
 use Rattle.qt_tree.specs.declared.statement.StatementForm.TheOpen as o
 use Rattle.qt_tree.specs.declared.statement.StatementForm.TheFolds.{ind-Statement, map-StatementForm}
 use Rattle.qt_tree.specs.declared.program.Program.{Program}
-use Rattle.qt_tree.specs.declared.program.Version.{Version}
 use Rattle.qt_tree.specs.declared.program.Item.{Item}
 use Rattle.qt_tree.specs.declared.program.Item.TheVariants as i
 use Rattle.qt_print.specs.Statements.{Line, block, two_blocks, condition_lexemes, for_lexemes, all_lines, form_step, form_lines, statement_lines}

@@ -1,5 +1,5 @@
 -- The operators that are printed mean what was read: binary ones, unary ones, and those of assignments.
-use Rattle.std.proofs.Common.{◌≡◌, ℕ, Bool, false, true, ◌&&◌, eqb, IsTrue, List, [], ◌∷◌, ◌++◌, map, codes, refl}
+use Rattle.std.proofs.Common.{◌≡◌, ℕ, Bool, false, true, ◌&&◌, eqb, IsTrue, List, [], ◌∷◌, map, codes, refl}
 use Rattle.qt_lex.proofs.Tables.{and_left, and_right, eqb_same}
 use Rattle.qt_terminals.specs.declared.terminal.Terminal.{Terminal}
 use Rattle.qt_terminals.specs.declared.terminal.Terminal.TheVariants as w

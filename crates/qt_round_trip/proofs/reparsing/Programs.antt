@@ -1,5 +1,5 @@
 -- Gates, definitions, items and the version of a program.
-use Rattle.std.proofs.Common.{◌≡◌, ℕ, ◌^◌, ◌%◌, List, [], ◌∷◌, ◌++◌, map, Option, Some, codes, refl, sym, ◌∙◌, ap, append_assoc}
+use Rattle.std.proofs.Common.{◌≡◌, ℕ, ◌^◌, ◌%◌, List, [], ◌∷◌, ◌++◌, map, Option, codes, refl, sym, ◌∙◌, ap, append_assoc}
 use Rattle.qt_tree.specs.declared.place.Place.{Place}
 use Rattle.qt_tree.specs.declared.program.Definition.{Definition}
 use Rattle.qt_tree.specs.declared.program.GateForm.TheVariants as gate_form_of
