@@ -28,9 +28,9 @@ use Rattle.qt_instructions.specs.declared.instruction.Instr.{Instr}
 use Rattle.qt_instructions.specs.declared.instruction.Instr.TheVariants as instr
 use Rattle.qt_instructions.specs.declared.instruction.Store.{Store}
 use Rattle.qt_instructions.specs.declared.instruction.Store.TheVariants as store
-use Rattle.qt_flatten.specs.Lengths.{expression_length}
-use Rattle.qt_flatten.specs.Expressions.{binary, expression_code, operand}
-use Rattle.qt_flatten.specs.Storing.{get, put, target_code, variable_code}
+use Rattle.qt_flat_code.specs.Lengths.{expression_length}
+use Rattle.qt_flat_code.specs.Expressions.{binary, expression_code, operand}
+use Rattle.qt_flat_code.specs.Storing.{get, put, target_code, variable_code}
 
 -- code, where this page has it
 abbrev pub Coded : Type 0

@@ -13,8 +13,8 @@ use Rattle.qt_meaning.specs.Distribution.{element_count}
 use Rattle.qt_meaning.specs.Places.{kind_of}
 use Rattle.qt_instructions.specs.declared.instruction.Instr.{Instr}
 use Rattle.qt_instructions.specs.declared.instruction.Instr.TheVariants as instr
-use Rattle.qt_flatten.specs.Lengths.{expression_length, variable_length}
-use Rattle.qt_flatten.specs.Expressions.{copied_code, every, expression_code, index_code, operand, place_kind}
+use Rattle.qt_flat_code.specs.Lengths.{expression_length, variable_length}
+use Rattle.qt_flat_code.specs.Expressions.{copied_code, every, expression_code, index_code, operand, place_kind}
 
 -- ---- variables
 

@@ -31,8 +31,8 @@ use Rattle.qt_instructions.specs.declared.instruction.Store.TheVariants as store
 use Rattle.qt_instructions.specs.declared.parts.Parts.{Parts}
 use Rattle.qt_code.specs.Tail.{leaves_from_start}
 use Rattle.qt_code.specs.Validity.{is_valid}
-use Rattle.qt_flatten.specs.Expressions.{binary, on_places, operand, place_kind}
-use Rattle.qt_flatten.specs.Straight.{straight_code}
+use Rattle.qt_flat_code.specs.Expressions.{binary, on_places, operand, place_kind}
+use Rattle.qt_flat_code.specs.Straight.{straight_code}
 
 -- ---- programs, their code and their meaning
 

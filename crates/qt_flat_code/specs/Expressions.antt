@@ -18,7 +18,7 @@ use Rattle.qt_instructions.specs.declared.instruction.Operand.{Operand}
 use Rattle.qt_instructions.specs.declared.instruction.Operation.TheVariants as operation
 use Rattle.qt_instructions.specs.declared.instruction.Instr.{Instr}
 use Rattle.qt_instructions.specs.declared.instruction.Instr.TheVariants as instr
-use Rattle.qt_flatten.specs.Lengths.{expression_length, jumps_of}
+use Rattle.qt_flat_code.specs.Lengths.{expression_length, jumps_of}
 
 -- ---- operands
 
