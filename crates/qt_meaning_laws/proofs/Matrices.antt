@@ -67,11 +67,11 @@ apply_times k m c v x = sum_ext k _ _ (λ z l. times_front (m x z) c (v z)) ∙ 
 pub adjoint_adjoint : (k : ℕ) (m : Matrix) → Same k m (adjoint (adjoint m))
 adjoint_adjoint k m x y l j = sym (conj_conj (m x y))
 
-adjoint_identity : (k h : ℕ) → Same k (identity h) (adjoint (identity h))
+pub adjoint_identity : (k h : ℕ) → Same k (identity h) (adjoint (identity h))
 adjoint_identity k h x y l j =
     sym (conj-kept (same y x) (two_to h) ∙ ap (kept (same y x)) (conj-two_to h) ∙ ap (λ t. kept t (two_to h)) (same_sym y x))
 
-adjoint_product : (k n : ℕ) (a b : Matrix) → Same n (product k (adjoint b) (adjoint a)) (adjoint (product k a b))
+pub adjoint_product : (k n : ℕ) (a b : Matrix) → Same n (product k (adjoint b) (adjoint a)) (adjoint (product k a b))
 adjoint_product k n a b x y l j =
     sym (conj-sum k (λ z. times (a y z) (b z x)) ∙ sum_ext k _ _ (λ z i. conj_times (a y z) (b z x) ∙ times_comm (conj (a y z)) (conj (b z x))))
 
