@@ -1,0 +1,14 @@
+pub mod Circle
+pub mod Picked
+pub mod Controls
+pub mod Doing
+pub mod Both
+pub mod Counting
+pub mod Fitting
+pub mod Members
+pub mod Modifying
+pub mod Following
+pub mod Acting
+pub mod States
+pub mod Products
+pub mod Inverses
