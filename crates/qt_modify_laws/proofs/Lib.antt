@@ -3,3 +3,7 @@ pub mod Reading
 pub mod Expanding
 pub mod Refusals
 pub mod Counted
+pub mod Below
+pub mod Keeping
+pub mod Running
+pub mod Runs
