@@ -9,10 +9,10 @@ use Rattle.qt_gate_calls.specs.declared.body.GateModifier.{GateModifier}
 use Rattle.qt_gate_calls.specs.declared.body.Called.{Called}
 use Rattle.qt_gate_calls.specs.declared.body.Called.TheVariants as called
 use Rattle.qt_instructions.specs.declared.reference.QubitRef.{QubitRef}
-use Rattle.qt_modify.specs.declared.unit.Argument.{Argument}
-use Rattle.qt_modify.specs.declared.unit.Controls.{Controls}
+use Rattle.qt_primitives.specs.declared.unit.Argument.{Argument}
+use Rattle.qt_primitives.specs.declared.unit.Controls.{Controls}
 use Rattle.qt_modify.specs.declared.unit.Steps.{Steps}
-use Rattle.qt_modify.specs.declared.unit.UnitPrimitive.{UnitPrimitive}
+use Rattle.qt_primitives.specs.declared.unit.UnitPrimitive.{UnitPrimitive}
 use Rattle.qt_modify.specs.Expansions.{Expanded, GateExpansion, GateExpansions, with_primitives, modified, inner_controls, inner_qubits, call_expansion, then_rest, nothing_after, body_call_expansion, calls_expansion, expansions_of}
 use Rattle.qt_modify.specs.Calls.{reached}
 use Rattle.qt_modify.specs.Needs.{are_idle}

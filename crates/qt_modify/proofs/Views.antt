@@ -5,7 +5,7 @@ use Rattle.qt_gate_calls.specs.declared.angle.Angle.{Angle, roll-Angle}
 use Rattle.qt_gate_calls.specs.declared.angle.Angle.TheOpen as o
 use Rattle.qt_gate_calls.specs.declared.angle.Angle.TheVariants as angle
 use Rattle.qt_gate_calls.specs.declared.angle.Angle.TheFolds.{fold-roll-Angle, map-Angle}
-use Rattle.qt_modify.specs.declared.unit.Argument.{Argument}
+use Rattle.qt_primitives.specs.declared.unit.Argument.{Argument}
 use Rattle.qt_modify.specs.Reckoning.{Reckoner, reckoned_form, reckoned}
 use Rattle.qt_modify.specs.Needs.{occurs_in_form, occurs}
 

@@ -15,9 +15,9 @@ use Rattle.qt_typed.specs.declared.call.GateUse.{GateUse}
 use Rattle.qt_typed.specs.declared.call.TypedCall.{TypedCall}
 use Rattle.qt_instructions.specs.declared.reference.QubitRef.{QubitRef}
 use Rattle.qt_instructions.specs.declared.reference.QubitRef.TheVariants as reference
-use Rattle.qt_modify.specs.declared.unit.Argument.{Argument}
-use Rattle.qt_modify.specs.declared.unit.Argument.TheVariants.{Fixed, Cell}
-use Rattle.qt_modify.specs.declared.unit.Controls.{Controls}
+use Rattle.qt_primitives.specs.declared.unit.Argument.{Argument}
+use Rattle.qt_primitives.specs.declared.unit.Argument.TheVariants.{Fixed, Cell}
+use Rattle.qt_primitives.specs.declared.unit.Controls.{Controls}
 use Rattle.qt_modify.specs.Expansions.{Expanded, call_expansion, expansions_of}
 
 -- ---- what is known before the run

@@ -9,12 +9,12 @@ use Rattle.qt_instructions.specs.declared.primitive.Primitive.TheVariants as pri
 use Rattle.qt_instructions.specs.declared.reference.AngleRef.{AngleRef}
 use Rattle.qt_instructions.specs.declared.reference.AngleRef.TheVariants.{Eighth, Work}
 use Rattle.qt_tree.specs.declared.place.Place.{Place}
-use Rattle.qt_modify.specs.declared.unit.UnitAngle.{UnitAngle}
-use Rattle.qt_modify.specs.declared.unit.UnitAngle.TheVariants.{Fixed, Cell}
-use Rattle.qt_modify.specs.declared.unit.Action.{Action}
-use Rattle.qt_modify.specs.declared.unit.Action.TheVariants.{Turn, Phase}
-use Rattle.qt_modify.specs.declared.unit.Controls.{Controls}
-use Rattle.qt_modify.specs.declared.unit.UnitPrimitive.{UnitPrimitive}
+use Rattle.qt_primitives.specs.declared.unit.UnitAngle.{UnitAngle}
+use Rattle.qt_primitives.specs.declared.unit.UnitAngle.TheVariants.{Fixed, Cell}
+use Rattle.qt_primitives.specs.declared.unit.Action.{Action}
+use Rattle.qt_primitives.specs.declared.unit.Action.TheVariants.{Turn, Phase}
+use Rattle.qt_primitives.specs.declared.unit.Controls.{Controls}
+use Rattle.qt_primitives.specs.declared.unit.UnitPrimitive.{UnitPrimitive}
 use Rattle.qt_modify.specs.declared.expansion.Expansion.{Expansion}
 use Rattle.qt_modify.specs.declared.expansion.ExpandRefusal.{ExpandRefusal}
 use Rattle.qt_modify.specs.declared.expansion.ExpandRefusal.TheVariants.{Angle, OutOfMemory}

@@ -1,7 +1,7 @@
 -- Reckoning the angles in the bodies of gates (OpenQASM 3.0 live specification, "Gates", hierarchically defined unitary gates, and "Types
 -- and Casting", angles; Cross et al. 2022; work cells are this profile's). What is fixed is reckoned at once; each other operator is one
 -- step, whose result goes to the next work cell.
-use Rattle.std.specs.Prelude.{ℕ, ◌+◌, pos, List, [], ◌∷◌, ◌++◌, length, get_or, Some, None}
+use Rattle.std.specs.Prelude.{ℕ, ◌+◌, List, [], ◌∷◌, ◌++◌, length, Some, None}
 use Rattle.qt_gate_calls.specs.declared.angle.Angle.{Angle}
 use Rattle.qt_gate_calls.specs.declared.angle.Angle.TheOpen as form
 use Rattle.qt_gate_calls.specs.declared.angle.Angle.TheOpen.{Angle-F}
@@ -11,8 +11,9 @@ use Rattle.qt_instructions.specs.declared.angle.AngleArg.{AngleArg}
 use Rattle.qt_instructions.specs.declared.angle.AngleArg.TheVariants as arg
 use Rattle.qt_instructions.specs.declared.angle.AngleStep.{AngleStep}
 use Rattle.qt_instructions.specs.declared.angle.AngleStep.TheVariants.{Add, Sub, Neg, Times, Over}
-use Rattle.qt_modify.specs.declared.unit.Argument.{Argument}
-use Rattle.qt_modify.specs.declared.unit.Argument.TheVariants.{Fixed, Cell}
+use Rattle.qt_primitives.specs.declared.unit.Argument.{Argument}
+use Rattle.qt_primitives.specs.declared.unit.Argument.TheVariants.{Fixed, Cell}
+pub use Rattle.qt_primitives.specs.Primitives.{argument_at}
 use Rattle.qt_modify.specs.declared.unit.Steps.{Steps}
 
 -- ---- steps
@@ -41,10 +42,6 @@ result_of cells (Over a k) = of_one (quotient_of k) (held cells a)
 abbrev pub arg_of : Argument → AngleArg
 arg_of (Fixed units) = arg.Units units
 arg_of (Cell cell) = arg.Work cell
-
--- the argument with that number, and no angle behind the end of the list
-abbrev pub argument_at : ℕ → List Argument → Argument
-argument_at number given = get_or given number (Fixed (pos 0))
 
 pub record Reckoned : Type 0 where
   pub steps : Steps

@@ -7,10 +7,11 @@ ghost use Rattle.qt_modify.specs.Needs.{flag_at, wanted};
 
 use crate::needs::{flag_at, wants};
 use crate::reckon::reckoned;
-use crate::unit::{Argument, Steps};
+use crate::unit::Steps;
 use qt_gate_calls::angle::Angle;
 use qt_gate_calls::body::{BodyCall, GateBody};
 use qt_phase::phase::Phase;
+use qt_primitives::unit::Argument;
 use sqlite_items::Items;
 use std::alloc::{AllocError, Global};
 

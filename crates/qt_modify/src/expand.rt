@@ -7,12 +7,13 @@ ghost use Rattle.qt_modify.specs.Known.{KnowsNeeds};
 
 use crate::arguments::arguments_of;
 use crate::needs::are_idle;
-use crate::primitives::{
-    inner_controls, inner_qubits, modified, one_primitive, phase_of, picked, turn_of,
-};
-use crate::unit::{Argument, Controls, Steps, UnitPrimitive};
+use crate::unit::Steps;
 use qt_gate_calls::body::{BodyCall, Called, GateBody, GateModifier};
 use qt_instructions::reference::QubitRef;
+use qt_primitives::primitives::{
+    inner_controls, inner_qubits, modified, one_primitive, phase_of, picked, turn_of,
+};
+use qt_primitives::unit::{Argument, Controls, UnitPrimitive};
 use sqlite_items::{Items, at};
 use std::alloc::{AllocError, Global};
 

@@ -5,10 +5,10 @@ ghost use Rattle.qt_gate_calls.specs.Faults.{or_later};
 ghost use Rattle.qt_modify.specs.Eighths.{Answers, angle_ref, first_wrong, under_controls, with_eighths, wrong_action, wrong_angle};
 
 use crate::expansion::{ExpandRefusal, Expansion};
-use crate::unit::{Action, Steps, UnitAngle, UnitPrimitive};
+use crate::unit::Steps;
 use qt_instructions::primitive::Primitive;
 use qt_instructions::reference::{AngleRef, QubitRef, Refs};
-use qt_phase::phase::Phase;
+use qt_primitives::unit::{Action, UnitAngle, UnitPrimitive};
 use qt_tree::place::Place;
 use sqlite_items::Items;
 use std::alloc::{AllocError, Global};

@@ -18,6 +18,5 @@ pub mod expand;
 pub mod expansion;
 pub mod finish;
 pub mod needs;
-pub mod primitives;
 pub mod reckon;
 pub mod unit;

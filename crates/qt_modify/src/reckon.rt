@@ -3,13 +3,15 @@
 ghost use Rattle.std.specs.Prelude.{◌≡◌, ◌+◌, None, length, IfOk};
 ghost use Rattle.qt_gate_calls.specs.Units.{of_one, of_two, sum_of, difference_of, negative_of, product_of, quotient_of};
 ghost use Rattle.qt_instructions.specs.declared.angle.AngleStep.TheVariants.{Add, Sub, Neg, Times, Over};
-ghost use Rattle.qt_modify.specs.Reckoning.{arg_of, argument_at, held, none_known, operated, reckoned, settled};
+ghost use Rattle.qt_modify.specs.Reckoning.{arg_of, held, none_known, operated, reckoned, settled};
 
-use crate::unit::{Argument, Steps};
+use crate::unit::Steps;
 use qt_gate_calls::angle::Angle;
 use qt_gate_calls::whole::Whole;
 use qt_instructions::angle::{AngleArg, AngleStep};
 use qt_phase::phase::Phase;
+use qt_primitives::primitives::argument_at;
+use qt_primitives::unit::Argument;
 use std::alloc::AllocError;
 
 fn sum(left: Phase, right: Phase) -> Option<Phase>
@@ -153,19 +155,6 @@ fn over(steps: &mut Steps, of: Argument, divisor: Whole) -> Result<Argument, All
 {
     let known = fixed_quotient(divisor, fixed(&of));
     settled(steps, AngleStep::Over(arg(of), divisor.number()), known)
-}
-
-/// The argument with that number, and no angle behind the end.
-#[tactic(auto, using(crate::proofs::Lists::argument_found))]
-pub fn argument_at(given: &[Argument], number: u32) -> Argument
-    ensures { result ≡ argument_at number given.now }
-{
-    given
-        .get(number as usize)
-        .copied()
-        .unwrap_or(Argument::Fixed {
-            phase: Phase::zero(),
-        })
 }
 
 /// The angle for the arguments of its gate. The steps that it needs come behind the steps so far. OpenQASM 3.0, "Gates", hierarchically

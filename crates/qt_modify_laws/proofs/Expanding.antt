@@ -13,10 +13,10 @@ use Rattle.qt_gate_calls.specs.Angles.{value}
 use Rattle.qt_gate_calls.specs.Numbered.{if_number, numbered_from}
 use Rattle.qt_gate_calls.specs.Primitives.{Turned, Phased, ControlsOf, with_one, with_zero, undo, repeated, powered, picked, first, others, Primitive, Primitives, inverse_of, all_modified_primitives, GatePrimitives, called_primitives, call_primitives, calls_primitives, body_primitives, primitives_of}
 use Rattle.qt_instructions.specs.declared.reference.QubitRef.{QubitRef}
-use Rattle.qt_modify.specs.declared.unit.Argument.{Argument}
-use Rattle.qt_modify.specs.declared.unit.Controls.{Controls}
+use Rattle.qt_primitives.specs.declared.unit.Argument.{Argument}
+use Rattle.qt_primitives.specs.declared.unit.Controls.{Controls}
 use Rattle.qt_modify.specs.declared.unit.Steps.{Steps}
-use Rattle.qt_modify.specs.declared.unit.UnitPrimitive.{UnitPrimitive}
+use Rattle.qt_primitives.specs.declared.unit.UnitPrimitive.{UnitPrimitive}
 use Rattle.qt_modify.specs.Reckoning.{Cells, none_known, argument_at, reckoned}
 use Rattle.qt_modify.specs.Needs.{occurs, are_idle, flag_at, called_needs, wanted, angles_need, calls_need}
 use Rattle.qt_modify.specs.Expansions.{angle_of, no_qubit, inner_controls, inner_qubits, modified, Expanded, Expander, GateExpansion, GateExpansions, needs_in, nothing_after, called_expansion, with_primitives, call_expansion, AllReckoned, reckoned_if, all_reckoned, body_call_expansion, calls_expansion, body_expansion, no_expansion, expansions_of}

@@ -5,14 +5,14 @@ use Rattle.qt_integers.proofs.Integers.{neg_neg}
 use Rattle.qt_gate_calls.specs.Units.{KnownUnits, opposite}
 use Rattle.qt_gate_calls.specs.Primitives.{Turned, Phased, ControlsOf, with_one, with_zero, undo, repeated, powered, nth_or, picked, others, inverse_of}
 use Rattle.qt_instructions.specs.declared.reference.QubitRef.{QubitRef}
-use Rattle.qt_modify.specs.declared.unit.Argument.{Argument}
-use Rattle.qt_modify.specs.declared.unit.Argument.TheVariants as argument
-use Rattle.qt_modify.specs.declared.unit.UnitAngle.{UnitAngle}
-use Rattle.qt_modify.specs.declared.unit.UnitAngle.TheVariants as angle
-use Rattle.qt_modify.specs.declared.unit.Action.{Action}
-use Rattle.qt_modify.specs.declared.unit.Action.TheVariants.{Turn, Phase}
-use Rattle.qt_modify.specs.declared.unit.Controls.{Controls}
-use Rattle.qt_modify.specs.declared.unit.UnitPrimitive.{UnitPrimitive}
+use Rattle.qt_primitives.specs.declared.unit.Argument.{Argument}
+use Rattle.qt_primitives.specs.declared.unit.Argument.TheVariants as argument
+use Rattle.qt_primitives.specs.declared.unit.UnitAngle.{UnitAngle}
+use Rattle.qt_primitives.specs.declared.unit.UnitAngle.TheVariants as angle
+use Rattle.qt_primitives.specs.declared.unit.Action.{Action}
+use Rattle.qt_primitives.specs.declared.unit.Action.TheVariants.{Turn, Phase}
+use Rattle.qt_primitives.specs.declared.unit.Controls.{Controls}
+use Rattle.qt_primitives.specs.declared.unit.UnitPrimitive.{UnitPrimitive}
 use Rattle.qt_modify.specs.Reckoning.{Cells}
 use Rattle.qt_modify.specs.Expansions.{angle_of, minus, inverse_action}
 use Rattle.qt_modify.specs.Expansions as unit

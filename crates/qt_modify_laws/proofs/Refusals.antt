@@ -5,11 +5,11 @@ use Rattle.qt_gate_calls.specs.Faults as faults
 use Rattle.qt_gate_calls.specs.Faults.{wrong, or_later}
 use Rattle.qt_gate_calls.specs.Primitives.{Primitive}
 use Rattle.qt_instructions.specs.declared.reference.QubitRef.{QubitRef}
-use Rattle.qt_modify.specs.declared.unit.UnitAngle.{UnitAngle}
-use Rattle.qt_modify.specs.declared.unit.UnitAngle.TheVariants as angle
-use Rattle.qt_modify.specs.declared.unit.Action.{Action}
-use Rattle.qt_modify.specs.declared.unit.Action.TheVariants.{Turn, Phase}
-use Rattle.qt_modify.specs.declared.unit.UnitPrimitive.{UnitPrimitive}
+use Rattle.qt_primitives.specs.declared.unit.UnitAngle.{UnitAngle}
+use Rattle.qt_primitives.specs.declared.unit.UnitAngle.TheVariants as angle
+use Rattle.qt_primitives.specs.declared.unit.Action.{Action}
+use Rattle.qt_primitives.specs.declared.unit.Action.TheVariants.{Turn, Phase}
+use Rattle.qt_primitives.specs.declared.unit.UnitPrimitive.{UnitPrimitive}
 use Rattle.qt_modify.specs.Reckoning.{none_known}
 use Rattle.qt_modify.specs.Calls.{use_expansion}
 use Rattle.qt_modify.specs.Eighths.{wrong_angle, wrong_action, first_wrong}

@@ -14,8 +14,8 @@ use Rattle.qt_instructions.specs.declared.angle.AngleArg.{AngleArg}
 use Rattle.qt_instructions.specs.declared.angle.AngleArg.TheVariants as arg
 use Rattle.qt_instructions.specs.declared.angle.AngleStep.{AngleStep}
 use Rattle.qt_instructions.specs.declared.angle.AngleStep.TheVariants.{Add, Sub, Neg, Times, Over}
-use Rattle.qt_modify.specs.declared.unit.Argument.{Argument}
-use Rattle.qt_modify.specs.declared.unit.Argument.TheVariants.{Fixed}
+use Rattle.qt_primitives.specs.declared.unit.Argument.{Argument}
+use Rattle.qt_primitives.specs.declared.unit.Argument.TheVariants.{Fixed}
 use Rattle.qt_modify.specs.declared.unit.Steps.{Steps}
 use Rattle.qt_modify.specs.Reckoning.{Cells, held, result_of, none_known, settled, operated, arg_of, argument_at, Reckoner, operated_one, operated_two, reckoned_form, reckoned}
 use Rattle.qt_modify.specs.Needs.{is_number, occurs, occurs_in_form}

@@ -9,12 +9,12 @@ use Rattle.qt_gate_calls.specs.Stopped.{stopped}
 use Rattle.qt_instructions.specs.declared.angle.AngleStep.{AngleStep}
 use Rattle.qt_instructions.specs.declared.reference.QubitRef.{QubitRef}
 use Rattle.qt_typed.specs.declared.call.GateUse.{GateUse}
-use Rattle.qt_modify.specs.declared.unit.Argument.{Argument}
-use Rattle.qt_modify.specs.declared.unit.UnitAngle.{UnitAngle}
-use Rattle.qt_modify.specs.declared.unit.UnitAngle.TheVariants as angle
-use Rattle.qt_modify.specs.declared.unit.Action.{Action}
-use Rattle.qt_modify.specs.declared.unit.Action.TheVariants.{Turn, Phase}
-use Rattle.qt_modify.specs.declared.unit.UnitPrimitive.{UnitPrimitive}
+use Rattle.qt_primitives.specs.declared.unit.Argument.{Argument}
+use Rattle.qt_primitives.specs.declared.unit.UnitAngle.{UnitAngle}
+use Rattle.qt_primitives.specs.declared.unit.UnitAngle.TheVariants as angle
+use Rattle.qt_primitives.specs.declared.unit.Action.{Action}
+use Rattle.qt_primitives.specs.declared.unit.Action.TheVariants.{Turn, Phase}
+use Rattle.qt_primitives.specs.declared.unit.UnitPrimitive.{UnitPrimitive}
 use Rattle.qt_modify.specs.declared.unit.Steps.{Steps}
 use Rattle.qt_modify.specs.Reckoning.{Cells, held, none_known, result_of, arg_of}
 use Rattle.qt_modify.specs.Expansions.{no_qubit}

@@ -1,6 +1,6 @@
 use Rattle.std.proofs.Common.{◌≡◌, length}
-use Rattle.qt_modify.specs.Expansions.{inner_qubits}
-use Rattle.qt_modify.proofs.primitives.inner_qubits.Given as goal
+use Rattle.qt_primitives.specs.Primitives.{inner_qubits}
+use Rattle.qt_primitives.proofs.primitives.inner_qubits.Given as goal
 
 abbrev pub invariant-modifiers : goal.invariant-modifiers
 invariant-modifiers l = inner_qubits l.modifiers l.qubits ≡ inner_qubits l.fn.modifiers l.fn.qubits

@@ -2,15 +2,14 @@
 
 ghost use Rattle.std.specs.Prelude.{◌≡◌, ◌++◌, ◌∷◌, [], IfOk, OnOk};
 ghost use Rattle.qt_gate_calls.specs.Primitives.{nth_or, others, picked, powered, repeated, undo};
-ghost use Rattle.qt_modify.specs.Reckoning.{argument_at};
-ghost use Rattle.qt_modify.specs.Expansions as spec;
-ghost use Rattle.qt_modify.specs.Expansions.{behind_control, inner_controls, inner_qubits, inverse_action, modified, modified_by};
-ghost use Rattle.qt_modify.specs.Expansions.{no_qubit, one_control, turn_of, phase_of};
+ghost use Rattle.qt_primitives.specs.Primitives as spec;
+ghost use Rattle.qt_primitives.specs.Primitives.{argument_at, behind_control, inner_controls, inner_qubits, inverse_action};
+ghost use Rattle.qt_primitives.specs.Primitives.{modified, modified_by, no_qubit, one_control, phase_of, turn_of};
 
-use crate::reckon::argument_at;
 use crate::unit::{Action, Argument, Controls, UnitAngle, UnitPrimitive};
 use qt_gate_calls::body::GateModifier;
 use qt_instructions::reference::QubitRef;
+use qt_phase::phase::Phase;
 use sqlite_items::Items;
 use std::alloc::{AllocError, Global};
 
@@ -132,6 +131,19 @@ pub fn inner_controls(
 }
 
 // ---- primitives
+
+/// The argument with that number, and no angle behind the end.
+#[tactic(auto, using(crate::proofs::Lists::argument_found))]
+pub fn argument_at(given: &[Argument], number: u32) -> Argument
+    ensures { result ≡ argument_at number given.now }
+{
+    given
+        .get(number as usize)
+        .copied()
+        .unwrap_or(Argument::Fixed {
+            phase: Phase::zero(),
+        })
+}
 
 fn angle_of(argument: &Argument) -> UnitAngle
     ensures { result ≡ spec.angle_of argument.now }

@@ -1,6 +1,6 @@
 use Rattle.std.proofs.Common.{◌≡◌, ◌≤◌, length, take}
-use Rattle.qt_modify.specs.Expansions.{modified}
-use Rattle.qt_modify.proofs.primitives.modified.Given as goal
+use Rattle.qt_primitives.specs.Primitives.{modified}
+use Rattle.qt_primitives.proofs.primitives.modified.Given as goal
 
 abbrev pub invariant-loop-left : goal.invariant-loop-left
 invariant-loop-left l = record {

@@ -1,5 +1,5 @@
-use Rattle.qt_modify.proofs.Lists.{one_more_picked}
-use Rattle.qt_modify.proofs.primitives.picked.Goals as goal
+use Rattle.qt_primitives.proofs.Lists.{one_more_picked}
+use Rattle.qt_primitives.proofs.primitives.picked.Goals as goal
 
 pub loop-place-preserved : goal.loop-place-preserved
 loop-place-preserved c =

@@ -1,6 +1,6 @@
 use Rattle.std.proofs.Common.{arith}
-use Rattle.qt_modify.proofs.Lists.{one_fewer}
-use Rattle.qt_modify.proofs.primitives.modified.Goals as goal
+use Rattle.qt_primitives.proofs.Lists.{one_fewer}
+use Rattle.qt_primitives.proofs.primitives.modified.Goals as goal
 
 pub loop-left-preserved : goal.loop-left-preserved
 loop-left-preserved c = record {

@@ -1,7 +1,7 @@
 use Rattle.std.proofs.Common.{◌≡◌, ◌++◌, length}
 use Rattle.qt_gate_calls.specs.Primitives.{undo}
-use Rattle.qt_modify.specs.Expansions.{inverse_of}
-use Rattle.qt_modify.proofs.primitives.undone.Given as goal
+use Rattle.qt_primitives.specs.Primitives.{inverse_of}
+use Rattle.qt_primitives.proofs.primitives.undone.Given as goal
 
 abbrev pub invariant-loop-primitive : goal.invariant-loop-primitive
 invariant-loop-primitive l = l.undone ++ undo inverse_of l.left ≡ undo inverse_of l.fn.primitives
