@@ -9,8 +9,8 @@ use Rattle.qt_instructions.specs.declared.angle.AngleArg.{AngleArg}
 use Rattle.qt_instructions.specs.declared.angle.AngleArg.TheVariants as arg
 use Rattle.qt_instructions.specs.declared.angle.AngleStep.{AngleStep}
 use Rattle.qt_instructions.specs.declared.angle.AngleStep.TheVariants.{Add, Sub, Neg, Times, Over}
-use Rattle.qt_modify.specs.declared.unit.Argument.{Argument}
-use Rattle.qt_modify.specs.declared.unit.Argument.TheVariants.{Fixed, Cell}
+use Rattle.qt_primitives.specs.declared.unit.Argument.{Argument}
+use Rattle.qt_primitives.specs.declared.unit.Argument.TheVariants.{Fixed, Cell}
 use Rattle.qt_modify.specs.declared.unit.Steps.{Steps}
 use Rattle.qt_modify.specs.Reckoning.{result_of, none_known, settled, operated, arg_of, argument_at, Reckoned, Reckoner, operated_one, operated_two, reckoned_form, reckoned}
 use Rattle.qt_modify.specs.Expansions.{AllReckoned, reckoned_if, all_reckoned}

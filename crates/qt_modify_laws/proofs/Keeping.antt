@@ -10,8 +10,8 @@ use Rattle.qt_gate_calls.specs.Numbered.{if_number, numbered_from}
 use Rattle.qt_gate_calls.specs.Primitives.{picked}
 use Rattle.qt_instructions.specs.declared.reference.QubitRef.{QubitRef}
 use Rattle.qt_typed.specs.declared.call.GateUse.{GateUse}
-use Rattle.qt_modify.specs.declared.unit.Argument.{Argument}
-use Rattle.qt_modify.specs.declared.unit.Controls.{Controls}
+use Rattle.qt_primitives.specs.declared.unit.Argument.{Argument}
+use Rattle.qt_primitives.specs.declared.unit.Controls.{Controls}
 use Rattle.qt_modify.specs.declared.unit.Steps.{Steps}
 use Rattle.qt_modify.specs.Needs.{are_idle, wanted}
 use Rattle.qt_modify.specs.Expansions.{no_qubit, inner_controls, inner_qubits, modified, Expanded, Expander, GateExpansion, GateExpansions, needs_in, nothing_after, called_expansion, with_primitives, call_expansion, AllReckoned, all_reckoned, body_call_expansion, calls_expansion, body_expansion, expansions_of}

@@ -7,14 +7,14 @@ use Rattle.qt_gate_calls.specs.Primitives.{Turned, Phased, Primitive, no_control
 use Rattle.qt_gate_calls.specs.Units.{KnownUnits}
 use Rattle.qt_instructions.specs.declared.reference.QubitRef.{QubitRef}
 use Rattle.qt_typed.specs.declared.call.GateUse.{GateUse}
-use Rattle.qt_modify.specs.declared.unit.Argument.{Argument}
-use Rattle.qt_modify.specs.declared.unit.Argument.TheVariants as argument
+use Rattle.qt_primitives.specs.declared.unit.Argument.{Argument}
+use Rattle.qt_primitives.specs.declared.unit.Argument.TheVariants as argument
 use Rattle.qt_modify.specs.declared.unit.Steps.{Steps}
-use Rattle.qt_modify.specs.declared.unit.UnitAngle.{UnitAngle}
-use Rattle.qt_modify.specs.declared.unit.UnitAngle.TheVariants as angle
-use Rattle.qt_modify.specs.declared.unit.Action.{Action}
-use Rattle.qt_modify.specs.declared.unit.Action.TheVariants.{Turn, Phase}
-use Rattle.qt_modify.specs.declared.unit.UnitPrimitive.{UnitPrimitive}
+use Rattle.qt_primitives.specs.declared.unit.UnitAngle.{UnitAngle}
+use Rattle.qt_primitives.specs.declared.unit.UnitAngle.TheVariants as angle
+use Rattle.qt_primitives.specs.declared.unit.Action.{Action}
+use Rattle.qt_primitives.specs.declared.unit.Action.TheVariants.{Turn, Phase}
+use Rattle.qt_primitives.specs.declared.unit.UnitPrimitive.{UnitPrimitive}
 use Rattle.qt_modify.specs.Reckoning.{Cells}
 use Rattle.qt_modify.specs.Expansions.{no_qubit}
 use Rattle.qt_modify.specs.Calls.{use_expansion}

@@ -7,8 +7,8 @@ use Rattle.qt_gate_calls.specs.Units.{KnownUnits}
 use Rattle.qt_instructions.specs.declared.angle.AngleStep.{AngleStep}
 use Rattle.qt_instructions.specs.declared.reference.QubitRef.{QubitRef}
 use Rattle.qt_typed.specs.declared.call.GateUse.{GateUse}
-use Rattle.qt_modify.specs.declared.unit.Argument.{Argument}
-use Rattle.qt_modify.specs.declared.unit.Argument.TheVariants.{Fixed, Cell}
+use Rattle.qt_primitives.specs.declared.unit.Argument.{Argument}
+use Rattle.qt_primitives.specs.declared.unit.Argument.TheVariants.{Fixed, Cell}
 use Rattle.qt_modify.specs.declared.unit.Steps.{Steps}
 use Rattle.qt_modify.specs.Reckoning.{Cells, result_of}
 use Rattle.qt_modify.specs.Expansions.{no_qubit}
