@@ -1,0 +1,3 @@
+pub mod Eighths
+pub mod Leaves
+pub mod Multiplied
