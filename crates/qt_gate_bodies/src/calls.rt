@@ -70,8 +70,8 @@ pub fn row_at(alloc: Global, number: u32, angle: Angle) -> Result<BodyCall, Allo
     ensures { IfOk result (λ made. made ≡ spec.row number (angle ∷ []) (0 ∷ [])) }
 {
     let angles = lists::one(alloc, angle)?;
-    let qubits = lists::one(alloc, 0)?;
-    Ok(plain(alloc, Called::Gate { number }, angles, qubits))
+    let on_first = lists::one(alloc, 0)?;
+    Ok(plain(alloc, Called::Gate { number }, angles, on_first))
 }
 
 /// A row of the table without angles, on two qubits.
