@@ -1,0 +1,5 @@
+pub mod Adding
+pub mod Copying
+pub mod LengthViews
+pub mod CodeViews
+pub mod EmittedForms

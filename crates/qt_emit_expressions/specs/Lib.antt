@@ -1,0 +1,3 @@
+pub mod Adds
+pub mod Emits
+pub mod Quotients
