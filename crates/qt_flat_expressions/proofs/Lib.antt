@@ -1,0 +1,14 @@
+pub mod Standing
+pub mod Coming
+pub mod Lengths
+pub mod Numbers
+pub mod Operators
+pub mod Places
+pub mod Stepping
+pub mod Copies
+pub mod Indexes
+pub mod Slices
+pub mod Rooms
+mod Sized
+pub mod Expressions
+mod Landing
