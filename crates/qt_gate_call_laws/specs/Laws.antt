@@ -11,7 +11,7 @@ use Rattle.qt_instructions.specs.declared.reference.QubitRef.{QubitRef}
 use Rattle.qt_typed.specs.declared.call.GateUse.{GateUse}
 use Rattle.qt_meaning.specs.Points.{Point}
 use Rattle.qt_meaning.specs.Applying.{multiplied}
-use Rattle.qt_modify.specs.declared.unit.Argument.{Argument}
+use Rattle.qt_primitives.specs.declared.unit.Argument.{Argument}
 use Rattle.qt_modify.specs.Expansions.{no_qubit}
 use Rattle.qt_modify.specs.Calls.{use_expansion}
 use Rattle.qt_modify_laws.specs.Laws.{held_in, primitive_at}
