@@ -1,6 +1,7 @@
 pub mod Angles
 pub mod Answers
 pub mod Builtins
+pub mod Latest
 pub mod Modes
 pub mod Names
 pub mod Refusals
