@@ -53,10 +53,10 @@ entered (parameter.Qubit slot ∷ ps) vs (q ∷ qs) base store = entered ps vs q
 entered (parameter.Register slot size ∷ ps) vs (q ∷ qs) base store = entered ps vs qs base store
 entered _ vs qs base store = store
 
--- the qubits of each parameter, by its number among the parameters
+-- the qubits of each register, by the number of its parameter among the parameters; a single qubit is no register
 abbrev pub registers_from : ℕ → List TypedParameter → List (List ℕ) → ℕ → List ℕ
 registers_from n (parameter.Value kind slot ∷ ps) qs i = registers_from (suc n) ps qs i
-registers_from n (parameter.Qubit slot ∷ ps) (q ∷ qs) i = if_number n i q (registers_from (suc n) ps qs i)
+registers_from n (parameter.Qubit slot ∷ ps) (q ∷ qs) i = registers_from (suc n) ps qs i
 registers_from n (parameter.Register slot size ∷ ps) (q ∷ qs) i = if_number n i q (registers_from (suc n) ps qs i)
 registers_from n _ qs i = []
 

@@ -1,8 +1,8 @@
 -- Programs that are well formed (OpenQASM 3.0 live specification, "Gates", "Subroutines" and "Types and Casting", quantum types; Cross et
 -- al. 2022): each gate call has as many qubits as its gate and its controls, each qubit is one of the program's, and each call of a
--- subroutine hands over registers of the sizes that its parameters have. Gates and subroutines are told over those before them. The check
+-- subroutine hands over what its parameters take: values, single qubits and registers of their sizes. Gates and subroutines are told over those before them. The check
 -- of a program lets no other through.
-use Rattle.std.specs.Prelude.{◌≡◌, ℕ, zero, suc, ◌<◌, List, [], ◌∷◌, length, map, Option, Some, None}
+use Rattle.std.specs.Prelude.{◌≡◌, ℕ, zero, suc, ◌<◌, List, [], ◌∷◌, length, Option, Some, None}
 use Rattle.std.specs.List.{All}
 use Rattle.qt_ring.specs.Places.{AreQubits}
 use Rattle.qt_registers.specs.declared.fixed.FixedQubit.{FixedQubit}
@@ -20,6 +20,7 @@ use Rattle.qt_typed.specs.declared.call.TypedQubits.{TypedQubits}
 use Rattle.qt_typed.specs.declared.call.TypedQubits.TheVariants as qubits
 use Rattle.qt_typed.specs.declared.call.GateUse.{GateUse}
 use Rattle.qt_typed.specs.declared.call.SubroutineCall.{SubroutineCall}
+use Rattle.qt_typed.specs.declared.expression.TypedExpr.{TypedExpr}
 use Rattle.qt_typed.specs.declared.program.TypedParameter.{TypedParameter}
 use Rattle.qt_typed.specs.declared.program.TypedParameter.TheVariants as parameter
 use Rattle.qt_typed.specs.declared.program.TypedSubroutine.{TypedSubroutine}
@@ -30,7 +31,6 @@ use Rattle.qt_typed.specs.declared.statement.TypedAction.{TypedAction}
 use Rattle.qt_typed.specs.declared.statement.TypedAction.TheVariants as action
 use Rattle.qt_typed.specs.declared.statement.TypedStatement.{TypedStatement, Row_of-TypedStatement, end_of-TypedStatement, more_of-TypedStatement}
 use Rattle.qt_typed.specs.declared.statement.TypedStatement.TheVariants.{Simple, If', Loop'}
-use Rattle.qt_typed.specs.Choices.{qubit_count}
 
 -- ---- gates
 
@@ -62,12 +62,12 @@ gate_sizes = numbered (λ sizes body. body.qubits) 0
 
 -- ---- qubits
 
--- what an action stands in: how many qubits the program has, its gates, the sizes of the registers that each subroutine takes, and those
--- of the parameters of its own subroutine, by their numbers
+-- what an action stands in: how many qubits the program has, its gates, the parameters of each subroutine, and the sizes of the registers
+-- of its own subroutine, by the numbers of their parameters
 pub record Scope : Type 0 where
   pub qubits : ℕ
   pub gates : List GateBody
-  pub taken : ℕ → List ℕ
+  pub taken : ℕ → List TypedParameter
   pub own : ℕ → ℕ
 
 abbrev pub FixedFits : Scope → FixedQubit → Type 0
@@ -95,8 +95,16 @@ OperandFits scope size (qubits.Register register) = (length register ≡ size) �
 abbrev pub UseFits : Scope → ℕ → GateUse → Type 0
 UseFits scope count used = (used.gates ≡ scope.gates) × (count ≡ call_size (gate_sizes scope.gates) used.modifiers used.gate)
 
+-- each parameter gets what it takes, in order: a value, a single qubit, or a register of its size
+abbrev pub GivenFits : List TypedParameter → List TypedExpr → List TypedQubits → Type 0
+GivenFits [] [] [] = Unit {0}
+GivenFits (parameter.Value kind slot ∷ ps) (v ∷ vs) qs = GivenFits ps vs qs
+GivenFits (parameter.Qubit slot ∷ ps) vs (qubits.Single q ∷ qs) = GivenFits ps vs qs
+GivenFits (parameter.Register slot size ∷ ps) vs (qubits.Register register ∷ qs) = (length register ≡ size) × GivenFits ps vs qs
+GivenFits _ _ _ = ⊥
+
 abbrev pub CallFits : Scope → SubroutineCall → Type 0
-CallFits scope call = (map qubit_count call.qubits ≡ scope.taken call.subroutine) × All (QubitsFit scope) call.qubits
+CallFits scope call = GivenFits (scope.taken call.subroutine) call.values call.qubits × All (QubitsFit scope) call.qubits
 
 -- ---- actions
 
@@ -138,18 +146,11 @@ BodyFits scope body = All (EachAction (ActionFits scope)) body
 
 -- ---- programs
 
--- the sizes of the registers that the parameters take, in order
-abbrev pub sizes_taken : List TypedParameter → List ℕ
-sizes_taken [] = []
-sizes_taken (parameter.Value kind slot ∷ ps) = sizes_taken ps
-sizes_taken (parameter.Qubit slot ∷ ps) = 1 ∷ sizes_taken ps
-sizes_taken (parameter.Register slot size ∷ ps) = size ∷ sizes_taken ps
-
--- those of the parameters by number, of which the first has the number n
+-- the sizes of the registers by the numbers of their parameters, of which the first has the number n
 abbrev pub sizes_from : ℕ → List TypedParameter → ℕ → ℕ
 sizes_from n [] i = 0
 sizes_from n (parameter.Value kind slot ∷ ps) i = sizes_from (suc n) ps i
-sizes_from n (parameter.Qubit slot ∷ ps) i = if_number n i 1 (sizes_from (suc n) ps i)
+sizes_from n (parameter.Qubit slot ∷ ps) i = sizes_from (suc n) ps i
 sizes_from n (parameter.Register slot size ∷ ps) i = if_number n i size (sizes_from (suc n) ps i)
 
 -- subroutines, of which the first has the number n, and then the main text
@@ -157,7 +158,7 @@ abbrev pub AllFit : Scope → ℕ → List TypedSubroutine → List TypedStateme
 AllFit scope n [] body = BodyFits scope body
 AllFit scope n (s ∷ ss) body =
     BodyFits (record scope { own = sizes_from 0 s.parameters }) s.body
-    × AllFit (record scope { taken = λ i. if_number n i (sizes_taken s.parameters) (scope.taken i) }) (suc n) ss body
+    × AllFit (record scope { taken = λ i. if_number n i s.parameters (scope.taken i) }) (suc n) ss body
 
 abbrev pub main_scope : Typed → Scope
 main_scope typed = record { qubits = typed.qubits; gates = typed.gates; taken = λ i. []; own = λ i. 0 }

@@ -24,7 +24,7 @@ use Rattle.qt_typed.specs.declared.statement.TypedStatement.{TypedStatement}
 use Rattle.qt_typed.specs.declared.statement.TypedStatement.TheVariants as statement
 use Rattle.qt_meaning.specs.Distribution.{leaves_of}
 use Rattle.qt_meaning.specs.Laws.{total}
-use Rattle.qt_meaning.specs.WellFormed.{Scope, FixedFits, QubitFits, QubitsFit, OperandFits, ActionFits, EachAction, BodyFits, sizes_taken, sizes_from, IsWellFormed, main_scope}
+use Rattle.qt_meaning.specs.WellFormed.{Scope, FixedFits, QubitFits, QubitsFit, OperandFits, ActionFits, EachAction, BodyFits, sizes_from, IsWellFormed, main_scope}
 use Rattle.qt_meaning_laws.proofs.Named.{all_none, all_more}
 use Rattle.qt_meaning_laws.proofs.Standard.{standard_gates_fit}
 use Rattle.qt_meaning_laws.proofs.LeafMasses.{mass_is_kept}
@@ -95,7 +95,7 @@ abbrev inner : Scope
 inner = record (main_scope example) { own = sizes_from 0 pair.parameters }
 
 abbrev outer : Scope
-outer = record (main_scope example) { taken = λ i. if_number 0 i (sizes_taken pair.parameters) [] }
+outer = record (main_scope example) { taken = λ i. if_number 0 i pair.parameters [] }
 
 both_fit : All (FixedFits inner) both
 both_fit = two (FixedFits inner) (fixed.OfParameter 0 0) (fixed.OfParameter 0 1) (omega arith) (omega arith)
@@ -109,7 +109,7 @@ unfolding standard_gates
 controlled_fits = ((refl, refl), two (QubitFits inner) (qubit.Fixed (fixed.OfParameter 0 0)) (qubit.Fixed (fixed.OfParameter 0 1)) (omega arith) (omega arith))
 
 calling_fits : ActionFits outer calling
-calling_fits = (refl, one (QubitsFit outer) (qubits.Register chosen) (two (FixedFits outer) (fixed.Number 2) (fixed.Number 0) (omega arith) (omega arith)))
+calling_fits = ((refl, tt), one (QubitsFit outer) (qubits.Register chosen) (two (FixedFits outer) (fixed.Number 2) (fixed.Number 0) (omega arith) (omega arith)))
 
 pair_fits : BodyFits inner pair.body
 pair_fits =

@@ -20,6 +20,7 @@ use Rattle.qt_gate_calls.specs.Units.{KnownUnits}
 use Rattle.qt_typed.specs.declared.call.GateUse.{GateUse}
 use Rattle.qt_typed.specs.declared.call.TypedQubit.{TypedQubit}
 use Rattle.qt_typed.specs.declared.call.SubroutineCall.{SubroutineCall}
+use Rattle.qt_typed.specs.declared.program.TypedParameter.{TypedParameter}
 use Rattle.qt_typed.specs.declared.program.TypedSubroutine.{TypedSubroutine}
 use Rattle.qt_typed.specs.declared.program.Typed.{Typed}
 use Rattle.qt_typed.specs.declared.statement.TypedRight.{TypedRight}
@@ -37,13 +38,13 @@ use Rattle.qt_meaning.specs.Loops.{after_turn, turns}
 use Rattle.qt_meaning.specs.Statements.{Arguments, Calls, past, list_tree, entered, registers_from, body_run, calls_of}
 use Rattle.qt_meaning.specs.Distribution.{main_site, root, run_of}
 use Rattle.qt_meaning.specs.Laws.{total, MassIsKept}
-use Rattle.qt_meaning.specs.WellFormed.{Scope, GatesFit, call_size, gate_sizes, QubitFits, CallFits, UseFits, RightFits, OptionalFits, ActionFits, BodyFits, sizes_taken, sizes_from, AllFit, main_scope, IsWellFormed}
+use Rattle.qt_meaning.specs.WellFormed.{Scope, GatesFit, call_size, gate_sizes, QubitFits, CallFits, UseFits, RightFits, OptionalFits, ActionFits, BodyFits, sizes_from, AllFit, main_scope, IsWellFormed}
 use Rattle.qt_meaning_laws.specs.Masses.{MassGoesThrough}
 use Rattle.qt_meaning_laws.proofs.Runs.{IsClosed, HasChoices, then_each, CallHas, GateHas, RightHas, OptionalHas, ActionHas, action_has}
 use Rattle.qt_meaning_laws.proofs.Trees.{list_has}
 use Rattle.qt_meaning_laws.proofs.Unitary.{IsUnitaryOn, each_call_unitary}
 use Rattle.qt_meaning_laws.proofs.StateMasses.{unitary_keeps_mass, flips_keep_mass}
-use Rattle.qt_meaning_laws.proofs.Named.{IsQubit, SiteFits, all_none, qubits_are, register_is, registers_are, own_sizes, own_members, different_qubits, operands_are}
+use Rattle.qt_meaning_laws.proofs.Named.{IsQubit, SiteFits, all_none, qubits_are, register_is, registers_are, own_sizes, own_members, sizes_taken, given_sizes, different_qubits, operands_are}
 
 -- ---- sums over leaves
 
@@ -204,12 +205,12 @@ module _ (n : ℕ) where
 -- ---- calls
 
 -- what is handed over has those sizes, and the qubits are the program's
-pub record GivenFits (n : ℕ) (sizes : List ℕ) (given : Arguments) : Type 0 where
+pub record HandsOver (n : ℕ) (sizes : List ℕ) (given : Arguments) : Type 0 where
   pub same_sizes : map length given.qubits ≡ sizes
   pub members : All (All (λ q. q < n)) given.qubits
 
 abbrev CallsKeep : Scope → Calls → Type 0
-CallsKeep z calls = (i : ℕ) (given : Arguments) (at : Site) → at.qubits ≡ z.qubits → GivenFits z.qubits (z.taken i) given → Keeps z.qubits (calls i given at)
+CallsKeep z calls = (i : ℕ) (given : Arguments) (at : Site) → at.qubits ≡ z.qubits → HandsOver z.qubits (sizes_taken (z.taken i)) given → Keeps z.qubits (calls i given at)
 
 module _ (z : Scope) (gates_fit : GatesFit z.gates) (calls : Calls) (calls_keep : CallsKeep z calls) (at : Site) (site : SiteFits z at) where
   abbrev P : Run → Type 0
@@ -227,7 +228,7 @@ module _ (z : Scope) (gates_fit : GatesFit z.gates) (calls : Calls) (calls_keep 
   call_keeps : (call : SubroutineCall) → CallFits z call → CallHas P (keeps_closed z.qubits) calls call at
   call_keeps call fit = λ store values ns qs e f.
       let given = registers_are z at site call.qubits store ns qs fit.1 e f in
-      calls_keep call.subroutine _ _ site.same_qubits (record { same_sizes = given.1 ∙ fit.0; members = given.0 })
+      calls_keep call.subroutine _ _ site.same_qubits (record { same_sizes = given.1 ∙ given_sizes (z.taken call.subroutine) call.values call.qubits fit.0; members = given.0 })
 
   right_keeps : (value : TypedRight) → RightFits z value → RightHas P (keeps_closed z.qubits) (IsQubit z) (choices z.qubits) calls at value
   right_keeps (right.Value value) fit = tt
@@ -263,7 +264,7 @@ body_keeps z gates counts calls h body at fit site =
     body at fit site
 
 subroutine_keeps : (z : Scope) → GatesFit z.gates → (counts : Counts) (calls : Calls) → CallsKeep z calls → (s : TypedSubroutine) → BodyFits (record z { own = sizes_from 0 s.parameters }) s.body →
-    (given : Arguments) (at : Site) → at.qubits ≡ z.qubits → GivenFits z.qubits (sizes_taken s.parameters) given → Keeps z.qubits (body_run counts calls s given at)
+    (given : Arguments) (at : Site) → at.qubits ≡ z.qubits → HandsOver z.qubits (sizes_taken s.parameters) given → Keeps z.qubits (body_run counts calls s given at)
 subroutine_keeps z gates counts calls h s fit given at same g =
     let site : Site = record at { registers = registers_from 0 s.parameters given.qubits } in
     (keeps_closed z.qubits).storing (entered s.parameters given.values given.qubits at.base) (list_tree counts calls s.body site)
@@ -274,7 +275,7 @@ subroutine_keeps z gates counts calls h s fit given at same g =
       members = λ i. own_members (λ q. q < z.qubits) 0 s.parameters given.qubits i g.members;
     }))
 
-by_number : (n i k : ℕ) (own before : List ℕ) (given : Arguments) (r s : Run) → (GivenFits k own given → Keeps k r) → (GivenFits k before given → Keeps k s) → GivenFits k (if_number n i own before) given → Keeps k (if_number n i r s)
+by_number : (n i k : ℕ) (own before : List TypedParameter) (given : Arguments) (r s : Run) → (HandsOver k (sizes_taken own) given → Keeps k r) → (HandsOver k (sizes_taken before) given → Keeps k s) → HandsOver k (sizes_taken (if_number n i own before)) given → Keeps k (if_number n i r s)
 by_number zero zero k own before given r s f g h = f h
 by_number (suc n) (suc i) k own before given r s f g h = by_number n i k own before given r s f g h
 by_number zero (suc i) k own before given r s f g h = g h
@@ -283,11 +284,11 @@ by_number (suc n) zero k own before given r s f g h = g h
 all_keep : (z : Scope) → GatesFit z.gates → (n : ℕ) (ss : List TypedSubroutine) (body : List TypedStatement) (counts all : Counts) (calls : Calls) → CallsKeep z calls → AllFit z n ss body → (at : Site) → SiteFits z at → Keeps z.qubits (list_tree all (calls_of n ss counts calls) body at)
 all_keep z gates n [] body counts all calls h fit at site = body_keeps z gates all calls h body at fit site
 all_keep z gates n (s ∷ ss) body counts all calls h fit at site =
-    all_keep (record z { taken = λ i. if_number n i (sizes_taken s.parameters) (z.taken i) }) gates (suc n) ss body
+    all_keep (record z { taken = λ i. if_number n i s.parameters (z.taken i) }) gates (suc n) ss body
     (λ i. if_number n i (list_choices counts s.body) (counts i)) all
     (λ i given at. if_number n i (body_run counts calls s given at) (calls i given at))
     (λ i given at same g.
-    by_number n i z.qubits (sizes_taken s.parameters) (z.taken i) given _ _
+    by_number n i z.qubits s.parameters (z.taken i) given _ _
     (subroutine_keeps z gates counts calls h s fit.0 given at same) (h i given at same) g)
     fit.1 at (record { same_qubits = site.same_qubits; sizes = site.sizes; members = site.members })
 

@@ -12,6 +12,7 @@ use Rattle.qt_typed.specs.declared.call.TypedQubit.{TypedQubit}
 use Rattle.qt_typed.specs.declared.call.TypedQubit.TheVariants as qubit
 use Rattle.qt_typed.specs.declared.call.TypedQubits.{TypedQubits}
 use Rattle.qt_typed.specs.declared.call.TypedQubits.TheVariants as qubits
+use Rattle.qt_typed.specs.declared.expression.TypedExpr.{TypedExpr}
 use Rattle.qt_typed.specs.declared.program.TypedParameter.{TypedParameter}
 use Rattle.qt_typed.specs.declared.program.TypedParameter.TheVariants as parameter
 use Rattle.qt_typed.specs.Choices.{qubit_count}
@@ -24,7 +25,7 @@ use Rattle.qt_meaning.specs.Expressions.{eval}
 use Rattle.qt_meaning.specs.Places.{Site, fixed_number, register_number, number_named, qubit_tested, numbers_named, all_tested, register_named, register_tested, registers_named, registers_tested}
 use Rattle.qt_meaning.specs.Applying.{is_among, some_twice, different, fixed_at, operands_at}
 use Rattle.qt_meaning.specs.Statements.{registers_from}
-use Rattle.qt_meaning.specs.WellFormed.{Scope, FixedFits, QubitFits, QubitsFit, OperandFits, sizes_taken, sizes_from}
+use Rattle.qt_meaning.specs.WellFormed.{Scope, FixedFits, GivenFits, QubitFits, QubitsFit, OperandFits, sizes_from}
 use Rattle.qt_meaning_laws.proofs.Runs.{all_first, all_later}
 
 abbrev pub IsQubit : Scope → ℕ → Type 0
@@ -174,11 +175,31 @@ if_number_is Q (suc n) (suc i) a b h g = if_number_is Q n i a b h g
 if_number_is Q zero (suc i) a b h g = g
 if_number_is Q (suc n) zero a b h g = g
 
+-- the sizes of what the parameters take, in order
+abbrev pub sizes_taken : List TypedParameter → List ℕ
+sizes_taken [] = []
+sizes_taken (parameter.Value kind slot ∷ ps) = sizes_taken ps
+sizes_taken (parameter.Qubit slot ∷ ps) = 1 ∷ sizes_taken ps
+sizes_taken (parameter.Register slot size ∷ ps) = size ∷ sizes_taken ps
+
+pub given_sizes : (ps : List TypedParameter) (vs : List TypedExpr) (qs : List TypedQubits) → GivenFits ps vs qs → map qubit_count qs ≡ sizes_taken ps
+given_sizes [] [] [] h = refl
+given_sizes [] [] (q ∷ qs) h = absurd h
+given_sizes [] (v ∷ vs) qs h = absurd h
+given_sizes (parameter.Value kind slot ∷ ps) [] qs h = absurd h
+given_sizes (parameter.Value kind slot ∷ ps) (v ∷ vs) qs h = given_sizes ps vs qs h
+given_sizes (parameter.Qubit slot ∷ ps) vs [] h = absurd h
+given_sizes (parameter.Qubit slot ∷ ps) vs (qubits.Single q ∷ qs) h = ap (λ ns. 1 ∷ ns) (given_sizes ps vs qs h)
+given_sizes (parameter.Qubit slot ∷ ps) vs (qubits.Register register ∷ qs) h = absurd h
+given_sizes (parameter.Register slot size ∷ ps) vs [] h = absurd h
+given_sizes (parameter.Register slot size ∷ ps) vs (qubits.Single q ∷ qs) h = absurd h
+given_sizes (parameter.Register slot size ∷ ps) vs (qubits.Register register ∷ qs) h = let e = h.0 in let f = given_sizes ps vs qs h.1 in cc
+
 pub own_sizes : (n : ℕ) (ps : List TypedParameter) (given : List (List ℕ)) (i : ℕ) → map length given ≡ sizes_taken ps → length (registers_from n ps given i) ≡ sizes_from n ps i
 own_sizes n [] given i e = refl
 own_sizes n (parameter.Value kind slot ∷ ps) given i e = own_sizes (suc n) ps given i e
 own_sizes n (parameter.Qubit slot ∷ ps) [] i e = absurd (cc)
-own_sizes n (parameter.Qubit slot ∷ ps) (q ∷ given) i e = length-if_number n i 1 q (registers_from (suc n) ps given i) (sizes_from (suc n) ps i) (cc) (own_sizes (suc n) ps given i (cc))
+own_sizes n (parameter.Qubit slot ∷ ps) (q ∷ given) i e = own_sizes (suc n) ps given i (cc)
 own_sizes n (parameter.Register slot size ∷ ps) [] i e = absurd (cc)
 own_sizes n (parameter.Register slot size ∷ ps) (q ∷ given) i e = length-if_number n i size q (registers_from (suc n) ps given i) (sizes_from (suc n) ps i) (cc) (own_sizes (suc n) ps given i (cc))
 
@@ -186,7 +207,7 @@ pub own_members : (Q : ℕ → Type 0) (n : ℕ) (ps : List TypedParameter) (giv
 own_members Q n [] given i h = all_none Q
 own_members Q n (parameter.Value kind slot ∷ ps) given i h = own_members Q (suc n) ps given i h
 own_members Q n (parameter.Qubit slot ∷ ps) [] i h = all_none Q
-own_members Q n (parameter.Qubit slot ∷ ps) (q ∷ given) i h = if_number_is (All Q) n i q (registers_from (suc n) ps given i) (all_first (All Q) q given h) (own_members Q (suc n) ps given i (all_later (All Q) q given h))
+own_members Q n (parameter.Qubit slot ∷ ps) (q ∷ given) i h = own_members Q (suc n) ps given i (all_later (All Q) q given h)
 own_members Q n (parameter.Register slot size ∷ ps) [] i h = all_none Q
 own_members Q n (parameter.Register slot size ∷ ps) (q ∷ given) i h = if_number_is (All Q) n i q (registers_from (suc n) ps given i) (all_first (All Q) q given h) (own_members Q (suc n) ps given i (all_later (All Q) q given h))
 
