@@ -4,15 +4,21 @@ use Rattle.std.proofs.Common.{◌≡◌, refl, ℕ, ◌+◌, true, List, [], ◌
 use Rattle.qt_tree.specs.declared.place.Place.{Place}
 use Rattle.qt_ring.specs.State.{zero_state, project, vanishes}
 use Rattle.qt_ring.specs.Ring.{plus, times, minus, nil, one, imaginary, the_omega}
+use Rattle.qt_value.specs.BitPlaces.{sum_below}
 use Rattle.qt_value.specs.declared.operators.Op.TheVariants as op
+use Rattle.qt_value.specs.declared.types.ValueType.{ValueType}
 use Rattle.qt_value.specs.declared.types.ValueType.TheVariants as kind
 use Rattle.qt_registers.specs.declared.fixed.FixedQubit.TheVariants as fixed
 use Rattle.qt_typed.specs.declared.call.TypedQubit.TheVariants as qubit
+use Rattle.qt_typed.specs.declared.call.TypedQubits.{TypedQubits}
 use Rattle.qt_typed.specs.declared.call.TypedQubits.TheVariants as qubits
 use Rattle.qt_typed.specs.declared.expression.Logical.TheVariants as logical
 use Rattle.qt_typed.specs.declared.expression.TypedExpr.{TypedExpr}
 use Rattle.qt_typed.specs.declared.expression.TypedExpr.TheBlock.{hidden-the_row-TypedExpr-0, hidden-the_row-TypedExpr-1}
 use Rattle.qt_typed.specs.declared.expression.TypedExpr.TheVariants as expression
+use Rattle.qt_typed.specs.declared.expression.TypedStep.{TypedStep}
+use Rattle.qt_typed.specs.declared.expression.TypedStep.TheVariants as step
+use Rattle.qt_typed.specs.declared.expression.TypedTarget.{TypedTarget}
 use Rattle.qt_typed.specs.declared.expression.TypedVariable.TheVariants as variable
 use Rattle.qt_typed.specs.declared.statement.TypedAction.{TypedAction}
 use Rattle.qt_typed.specs.declared.statement.TypedAction.TheVariants as action
@@ -21,9 +27,9 @@ use Rattle.qt_typed.specs.declared.statement.TypedStatement.{TypedStatement}
 use Rattle.qt_typed.specs.declared.statement.TypedStatement.TheBlock.{hidden-the_row-TypedStatement-0}
 use Rattle.qt_typed.specs.declared.statement.TypedStatement.TheVariants as statement
 use Rattle.qt_meaning.specs.Places.{Site}
-use Rattle.qt_meaning.specs.Points.{Leaf, leaf, On}
+use Rattle.qt_meaning.specs.Points.{Faulted, Leaf, On, Signal, leaf}
 use Rattle.qt_meaning.specs.Statements.{list_tree}
-use Rattle.qt_meaning.specs.Values.{converted_to, is_true, number_of, operated, place_in, with_bit}
+use Rattle.qt_meaning.specs.Values.{Index, converted_to, is_true, number_of, operated, place_in, slice_of, with_bit}
 use Rattle.qt_instructions.specs.declared.reference.QubitRef.TheVariants as reference
 use Rattle.qt_instructions.specs.declared.instruction.Instr.{Instr}
 use Rattle.qt_instructions.specs.declared.instruction.Instr.TheVariants as instr
@@ -78,10 +84,17 @@ abbrev stores : List Leaf → List (List ℕ)
 stores [] = []
 stores (l ∷ ls) = l.point.store ∷ stores ls
 
+abbrev signals : List Leaf → List Signal
+signals [] = []
+signals (l ∷ ls) = l.signal ∷ signals ls
+
+abbrev leaves_in_meaning : List TypedStatement → ℕ → List Leaf
+leaves_in_meaning program fuel =
+    list_tree (λ n. 0) (λ n given at. leaf On) program site
+    (record { store = 0 ∷ 0 ∷ 0 ∷ []; state = zero_state 1; fuel = fuel; trail = [] })
+
 abbrev stores_in_meaning : List TypedStatement → ℕ → List (List ℕ)
-stores_in_meaning program fuel =
-    stores (list_tree (λ n. 0) (λ n given at. leaf On) program site
-    (record { store = 0 ∷ 0 ∷ 0 ∷ []; state = zero_state 1; fuel = fuel; trail = [] }))
+stores_in_meaning program fuel = stores (leaves_in_meaning program fuel)
 
 abbrev stores_in_code : List TypedStatement → ℕ → List (List ℕ)
 stores_in_code program fuel = stores (leaves_from_start (parts_of program) fuel)
@@ -111,8 +124,8 @@ decided_code : instructions_of (code_of decided)
     ∷ instr.Put 0 0
     ∷ instr.Tick
     ∷ instr.Load 0 4
-    ∷ instr.Get 2 0
-    ∷ binary 0 op.Add (operand 2 (kind.Uint 8)) (operand 0 (kind.Uint 8))
+    ∷ instr.Get 3 0
+    ∷ binary 0 op.Add (operand 3 (kind.Uint 8)) (operand 0 (kind.Uint 8))
     ∷ instr.Cast 0 (operand 0 (kind.Uint 8)) (kind.Uint 8)
     ∷ instr.Put 0 0
     ∷ instr.Tick
@@ -204,3 +217,138 @@ elements_in_code = refl
 elements_in_meaning : stores_in_meaning elements 3 ≡ (1 ∷ 9 ∷ 0 ∷ []) ∷ []
 unfolding zero_state operated converted_to number_of place_in project vanishes with_bit plus times minus nil one imaginary the_omega hidden hidden-the_row-TypedExpr-0 hidden-the_row-TypedExpr-1 hidden-the_row-TypedStatement-0
 elements_in_meaning = refl
+
+-- ---- bit[4] b; int i = -1; b[1:3][i] = 1; b[0:2:2] ^= "11";
+
+abbrev b_steps : List TypedStep → ValueType → TypedTarget
+b_steps steps of = record { variable = variable.Slot (kind.Bit 4) 0; steps = steps; kind = of }
+
+abbrev i : TypedExpr
+i = expression.Slot (kind.Int 64) 1
+
+abbrev bit_text : ℕ → ℕ → TypedExpr
+bit_text width bits = expression.Constant (record { kind = kind.Bit width; bits = bits })
+
+abbrev bits : List TypedStatement
+bits =
+    at_line 1 (action.Declare (kind.Int 64) 1 (Some (right.Value last)))
+    ∷ at_line 2 (action.Assign (b_steps (step.Slice 1 1 3 ∷ step.At i ∷ []) (kind.Bit 1)) (right.Value (bit_text 1 1)))
+    ∷ at_line 3 (action.Update (b_steps (step.Slice 0 2 2 ∷ []) (kind.Bit 2)) op.Xor (bit_text 2 3)) ∷ []
+
+-- from a value in a cell to bits of another
+abbrev moved : ℕ → ValueType → ℕ → ℕ → ValueType → ℕ → ℕ → List Instr → List Instr
+moved from of read to into write used rest =
+    instr.Load used read
+    ∷ instr.BitGet (used + 1) (operand from of) (operand used (kind.Uint 8))
+    ∷ instr.Load used write
+    ∷ instr.BitPut (operand to into) (operand used (kind.Uint 8)) (used + 1) ∷ rest
+
+bits_code : instructions_of (code_of bits)
+    ≡ instr.Tick
+    ∷ instr.Load 0 18446744073709551615
+    ∷ instr.Put 1 0
+    ∷ instr.Tick
+    ∷ instr.Load 0 1
+    ∷ instr.Get 3 1
+    ∷ instr.BitGet 4 (operand 4 (kind.Bit 3)) (operand 3 (kind.Int 64))
+    ∷ instr.Load 4 3
+    ∷ instr.Cast 2 (operand 3 (kind.Int 64)) place_kind
+    ∷ on_places 2 op.Add 4
+    ∷ on_places 2 op.Rem 4
+    ∷ instr.Load 4 1
+    ∷ on_places 2 op.Mul 4
+    ∷ instr.Load 4 1
+    ∷ on_places 2 op.Add 4
+    ∷ instr.Get 3 0
+    ∷ instr.BitPut (operand 3 (kind.Bit 4)) (operand 2 place_kind) 0
+    ∷ instr.Put 0 3
+    ∷ instr.Tick
+    ∷ instr.Load 0 3
+    ∷ instr.Get 4 0
+    ∷ instr.Load 3 0
+    ∷ moved 4 (kind.Bit 4) 0 3 (kind.Bit 2) 0 5 (moved 4 (kind.Bit 4) 2 3 (kind.Bit 2) 1 5 (
+    binary 0 op.Xor (operand 3 (kind.Bit 2)) (operand 0 (kind.Bit 2))
+    ∷ instr.Cast 0 (operand 0 (kind.Bit 2)) (kind.Bit 2)
+    ∷ instr.Get 3 0
+    ∷ moved 0 (kind.Bit 2) 0 3 (kind.Bit 4) 0 4 (moved 0 (kind.Bit 2) 1 3 (kind.Bit 4) 2 4 (
+    instr.Put 0 3 ∷ []))))
+unfolding hidden hidden-the_row-TypedExpr-0 hidden-the_row-TypedExpr-1 hidden-the_row-TypedStatement-0
+bits_code = refl
+
+bits_are_valid : is_valid (parts_of bits) ≡ true
+unfolding hidden hidden-the_row-TypedExpr-0 hidden-the_row-TypedExpr-1 hidden-the_row-TypedStatement-0
+bits_are_valid = refl
+
+bits_in_code : stores_in_code bits 3 ≡ (13 ∷ 18446744073709551615 ∷ 0 ∷ []) ∷ []
+unfolding zero_state operated converted_to number_of place_in slice_of with_bit hidden hidden-the_row-TypedExpr-0 hidden-the_row-TypedExpr-1 hidden-the_row-TypedStatement-0
+bits_in_code = refl
+
+bits_in_meaning : stores_in_meaning bits 3 ≡ (13 ∷ 18446744073709551615 ∷ 0 ∷ []) ∷ []
+unfolding zero_state operated converted_to number_of place_in slice_of sum_below with_bit hidden hidden-the_row-TypedExpr-0 hidden-the_row-TypedExpr-1 hidden-the_row-TypedStatement-0
+bits_in_meaning = refl
+
+-- ---- array[uint[4], 2] a; int i = -2; a[1][i] = measure q; measure r -> b[2:3]; measure q; reset q; a[2] = 1;
+
+abbrev second : TypedTarget
+second = record { variable = variable.Element (kind.Uint 4) 0 (2 ∷ []) (whole 1 ∷ []); steps = step.At (expression.Slot (kind.Int 64) 2) ∷ []; kind = kind.Bit 1 }
+
+abbrev of_first : TypedTarget
+of_first = record { variable = variable.Element (kind.Uint 4) 0 (2 ∷ []) (whole 0 ∷ []); steps = step.Slice 2 1 2 ∷ []; kind = kind.Bit 2 }
+
+abbrev beyond : TypedTarget
+beyond = record { variable = variable.Element (kind.Uint 4) 0 (2 ∷ []) (whole 2 ∷ []); steps = []; kind = kind.Uint 4 }
+
+abbrev q : TypedQubits
+q = qubits.Single (qubit.Fixed (fixed.Number 0))
+
+abbrev outcomes : List TypedStatement
+outcomes =
+    at_line 1 (action.Declare (kind.Int 64) 2 (Some (right.Value (whole 18446744073709551614))))
+    ∷ at_line 2 (action.Assign second (right.Measure q))
+    ∷ at_line 3 (action.Measure (qubits.Register (fixed.Number 0 ∷ fixed.Number 0 ∷ [])) (Some of_first))
+    ∷ at_line 4 (action.Measure q None)
+    ∷ at_line 5 (action.Reset q)
+    ∷ at_line 6 (action.Assign beyond (right.Value (small 1))) ∷ []
+
+outcomes_code : instructions_of (code_of outcomes)
+    ≡ instr.Tick
+    ∷ instr.Load 0 18446744073709551614
+    ∷ instr.Put 2 0
+    ∷ instr.Tick
+    ∷ instr.Get 2 2
+    ∷ instr.BitGet 3 (operand 3 (kind.Bit 4)) (operand 2 (kind.Int 64))
+    ∷ instr.Load 3 4
+    ∷ instr.Cast 1 (operand 2 (kind.Int 64)) place_kind
+    ∷ on_places 1 op.Add 3
+    ∷ on_places 1 op.Rem 3
+    ∷ instr.Load 3 1
+    ∷ on_places 1 op.Mul 3
+    ∷ instr.Load 3 0
+    ∷ on_places 1 op.Add 3
+    ∷ instr.Measure (reference.At 0) (store.BitAt 1 1)
+    ∷ instr.Tick
+    ∷ instr.Measure (reference.At 0) (store.Bit 0 2)
+    ∷ instr.Measure (reference.At 0) (store.Bit 0 3)
+    ∷ instr.Tick
+    ∷ instr.Measure (reference.At 0) store.Nowhere
+    ∷ instr.Tick
+    ∷ instr.Reset (reference.At 0)
+    ∷ instr.Tick
+    ∷ instr.Load 0 1
+    ∷ instr.Load 1 0
+    ∷ instr.Load 2 2
+    ∷ indexed 1 (instr.PutAt 0 2 (operand 1 place_kind) 0 ∷ [])
+unfolding place_in number_of hidden hidden-the_row-TypedExpr-0 hidden-the_row-TypedExpr-1 hidden-the_row-TypedStatement-0
+outcomes_code = refl
+
+outcomes_are_valid : is_valid (parts_of outcomes) ≡ true
+unfolding place_in number_of hidden hidden-the_row-TypedExpr-0 hidden-the_row-TypedExpr-1 hidden-the_row-TypedStatement-0
+outcomes_are_valid = refl
+
+outcomes_in_code : leaves_from_start (parts_of outcomes) 6 ≡ leaves_in_meaning outcomes 6
+unfolding zero_state operated converted_to number_of place_in slice_of project vanishes with_bit plus times minus nil one imaginary the_omega hidden hidden-the_row-TypedExpr-0 hidden-the_row-TypedExpr-1 hidden-the_row-TypedStatement-0
+outcomes_in_code = refl
+
+outcomes_in_meaning : signals (leaves_in_meaning outcomes 6) ≡ Faulted Index (line 6) ∷ []
+unfolding zero_state operated converted_to number_of place_in slice_of project vanishes with_bit plus times minus nil one imaginary the_omega hidden hidden-the_row-TypedExpr-0 hidden-the_row-TypedExpr-1 hidden-the_row-TypedStatement-0
+outcomes_in_meaning = refl

@@ -1,4 +1,6 @@
+pub mod Bits
 pub mod Lengths
 pub mod Expressions
 pub mod Storing
+pub mod Measuring
 pub mod Straight
