@@ -9,6 +9,6 @@ pub mod Copies
 pub mod Indexes
 pub mod Slices
 pub mod Rooms
-mod Sized
+pub mod Sized
 pub mod Expressions
 mod Landing
