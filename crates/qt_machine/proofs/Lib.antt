@@ -1,0 +1,5 @@
+pub mod Bits
+pub mod Large
+pub mod Lists
+pub mod Sets
+pub mod Widths
