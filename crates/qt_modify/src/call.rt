@@ -1,14 +1,15 @@
 //! Expanding typed gate calls.
 
-ghost use Rattle.std.specs.Prelude.{◌≡◌, suc, take, IfOk};
+ghost use Rattle.std.specs.Prelude.{◌≡◌, suc, take, [], IfOk};
 ghost use Rattle.qt_modify.specs.Calls as spec;
 ghost use Rattle.qt_modify.specs.Calls.{argument_of, arguments_from, behind_arguments, behind_operands, cell_behind, expansion_of};
 ghost use Rattle.qt_modify.specs.Calls.{fixed_phase, fixed_qubit, reached, references_from, reference_of, use_expansion};
 ghost use Rattle.qt_modify.specs.Calls.{no_controls};
 ghost use Rattle.qt_modify.specs.Expansions.{call_expansion, expansions_of};
 ghost use Rattle.qt_modify.specs.Eighths.{Answers};
+ghost use Rattle.qt_modify.specs.Known.{KnowsNeeds};
 
-use crate::expand::call_expansion;
+use crate::expand::{LEVELS, call_expansion};
 use crate::expansion::{ExpandRefusal, Expansion};
 use crate::finish::finished;
 use crate::needs::needs_of;
@@ -160,6 +161,38 @@ fn reached(gates: &[GateBody], gate: Called) -> &[GateBody]
     }
 }
 
+/// The primitives of a gate over these gates, with the flags of the parameters that they need.
+fn unit_expansion_over(
+    alloc: Global,
+    gates: &[GateBody],
+    needs: &[Items<bool>],
+    used: &GateUse,
+    arguments: &[Argument],
+    qubits: &[QubitRef],
+    steps: &mut Steps,
+) -> Result<Items<UnitPrimitive>, AllocError>
+    requires { KnowsNeeds gates.now needs.now }
+    ensures { IfOk result (λ primitives. call_expansion (expansions_of gates.now) used.now.modifiers used.now.gate arguments.now
+        no_controls qubits.now steps.old ≡ record { steps = steps.new; primitives = primitives }) }
+{
+    let controls = Controls {
+        ones: Items::new(alloc),
+        zeros: Items::new(alloc),
+    };
+    call_expansion(
+        alloc,
+        gates,
+        needs,
+        LEVELS,
+        used.modifiers.as_slice(),
+        used.gate,
+        arguments,
+        &controls,
+        qubits,
+        steps,
+    )
+}
+
 #[tactic(auto, using(crate::proofs::Calls::reached_expand))]
 fn unit_expansion(
     alloc: Global,
@@ -173,21 +206,45 @@ fn unit_expansion(
 {
     let gates = reached(used.gates.bodies(), used.gate);
     let needs = needs_of(alloc, gates)?;
-    let controls = Controls {
-        ones: Items::new(alloc),
-        zeros: Items::new(alloc),
-    };
-    call_expansion(
+    unit_expansion_over(
         alloc,
         gates,
         needs.as_slice(),
-        used.modifiers.as_slice(),
-        used.gate,
+        used,
         arguments,
-        &controls,
         qubits,
         steps,
     )
+}
+
+/// No steps yet, the first of which writes that cell.
+fn no_steps(alloc: Global, first: u32) -> Steps
+    ensures { result ≡ record { first = first; steps = [] } }
+{
+    Steps {
+        first,
+        steps: Items::new(alloc),
+    }
+}
+
+/// The steps and primitives of a gate with its modifiers, as of [`expand_use`], by the flags of the parameters that the gates need. A
+/// program makes these once, by `needs_of`, and so each of its calls costs what it comes to, and not what is declared before it.
+pub fn expand_known(
+    alloc: Global,
+    needs: &[Items<bool>],
+    place: Place,
+    used: &GateUse,
+    arguments: &[Argument],
+    qubits: &[QubitRef],
+    first: u32,
+) -> Result<Expansion, ExpandRefusal>
+    requires { KnowsNeeds used.now.gates needs.now }
+    ensures { Answers (use_expansion used.now arguments.now qubits.now first) place result }
+{
+    let mut steps = no_steps(alloc, first);
+    let gates = used.gates.bodies();
+    let primitives = unit_expansion_over(alloc, gates, needs, used, arguments, qubits, &mut steps)?;
+    finished(alloc, place, steps, primitives.as_slice())
 }
 
 /// The steps and primitives of a gate with its modifiers, for its arguments and on qubits. The first step writes the cell `first`. It is
@@ -203,10 +260,7 @@ pub fn expand_use(
 ) -> Result<Expansion, ExpandRefusal>
     ensures { Answers (use_expansion used.now arguments.now qubits.now first) place result }
 {
-    let mut steps = Steps {
-        first,
-        steps: Items::new(alloc),
-    };
+    let mut steps = no_steps(alloc, first);
     let primitives = unit_expansion(alloc, used, arguments, qubits, &mut steps)?;
     finished(alloc, place, steps, primitives.as_slice())
 }

@@ -1,6 +1,6 @@
 //! The primitives of a call, with the steps that their angles need.
 
-ghost use Rattle.std.specs.Prelude.{◌≡◌, IfOk};
+ghost use Rattle.std.specs.Prelude.{◌≡◌, ◌+◌, IfOk};
 ghost use Rattle.qt_modify.specs.Expansions as spec;
 ghost use Rattle.qt_modify.specs.Expansions.{body_call_expansion, called_expansion, calls_expansion, expansions_of};
 ghost use Rattle.qt_modify.specs.Known.{KnowsNeeds};
@@ -17,13 +17,26 @@ use qt_primitives::unit::{Argument, Controls, UnitPrimitive};
 use sqlite_items::{Items, at};
 use std::alloc::{AllocError, Global};
 
+/// How many bodies may stand in one another, each called in the one around it. Where there are more, the answer is want of memory, since
+/// each takes a part of the stack.
+pub const LEVELS: u32 = 1024;
+
+/// The levels that are left inside of a body.
+fn inner_levels(levels: u32) -> Result<u32, AllocError>
+    ensures { IfOk result (λ inner. inner + 1 ≡ levels) }
+{
+    levels.checked_sub(1).ok_or(AllocError)
+}
+
 /// The primitives of a call under its modifiers, under controls and on its qubits. The steps that they need come behind the steps so far.
-/// `needs` has the flags of the parameters that each gate needs. OpenQASM 3.0, "Gates", quantum gate modifiers.
+/// `needs` has the flags of the parameters that each gate needs, and no more than `levels` bodies may stand in one another. OpenQASM 3.0,
+/// "Gates", quantum gate modifiers.
 #[cycle(expand)]
 pub fn call_expansion(
     alloc: Global,
     gates: &[GateBody],
     needs: &[Items<bool>],
+    levels: u32,
     modifiers: &[GateModifier],
     gate: Called,
     arguments: &[Argument],
@@ -40,7 +53,9 @@ pub fn call_expansion(
     }
     let inner = inner_controls(alloc, controls, modifiers, qubits)?;
     let own = inner_qubits(modifiers, qubits);
-    let primitives = called_expansion(alloc, gates, needs, gate, arguments, inner, own, steps)?;
+    let primitives = called_expansion(
+        alloc, gates, needs, levels, gate, arguments, inner, own, steps,
+    )?;
     modified(alloc, modifiers, primitives)
 }
 
@@ -50,6 +65,7 @@ fn called_expansion(
     alloc: Global,
     gates: &[GateBody],
     needs: &[Items<bool>],
+    levels: u32,
     gate: Called,
     arguments: &[Argument],
     controls: Controls,
@@ -67,6 +83,7 @@ fn called_expansion(
             alloc,
             gates,
             needs,
+            inner_levels(levels)?,
             number as usize,
             arguments,
             &controls,
@@ -82,6 +99,7 @@ fn gate_expansion(
     alloc: Global,
     gates: &[GateBody],
     needs: &[Items<bool>],
+    levels: u32,
     number: usize,
     arguments: &[Argument],
     controls: &Controls,
@@ -98,6 +116,7 @@ fn gate_expansion(
             alloc,
             &gates[..number],
             needs,
+            levels,
             body.calls.as_slice(),
             arguments,
             controls,
@@ -113,6 +132,7 @@ fn calls_expansion(
     alloc: Global,
     gates: &[GateBody],
     needs: &[Items<bool>],
+    levels: u32,
     calls: &[BodyCall],
     given: &[Argument],
     controls: &Controls,
@@ -125,7 +145,9 @@ fn calls_expansion(
 {
     let mut primitives = Items::new(alloc);
     for call in calls {
-        let more = body_call_expansion(alloc, gates, needs, call, given, controls, qubits, steps)?;
+        let more = body_call_expansion(
+            alloc, gates, needs, levels, call, given, controls, qubits, steps,
+        )?;
         primitives.append(more)?;
     }
     Ok(primitives)
@@ -137,6 +159,7 @@ fn body_call_expansion(
     alloc: Global,
     gates: &[GateBody],
     needs: &[Items<bool>],
+    levels: u32,
     call: &BodyCall,
     given: &[Argument],
     controls: &Controls,
@@ -153,6 +176,7 @@ fn body_call_expansion(
         alloc,
         gates,
         needs,
+        levels,
         call.modifiers.as_slice(),
         call.gate,
         arguments.as_slice(),
