@@ -48,7 +48,7 @@ OTHERS = {
     "not": (1, lambda a: not a), "cond": (3, lambda test, a, b: a if test else b),
     "codes": (1, lambda text: tuple(text.encode())),
     "is_some": (1, lambda option: option.name == "Some"), "option_map": (2, lambda f, option: if_some(option, lambda x: call(f, x))),
-    "option_or": (2, lambda a, b: a if a.name == "Some" else b),
+    "unwrap_or": (2, lambda option, other: option.parts[0] if option.name == "Some" else other), "option_or": (2, lambda a, b: a if a.name == "Some" else b),
 }
 
 LISTS = {
@@ -56,8 +56,9 @@ LISTS = {
     "length": (1, len), "map": (2, lambda f, xs: tuple(call(f, x) for x in xs)), "take": (2, lambda n, xs: xs[:n]),
     "reverse": (1, lambda xs: xs[::-1]), "slice_get": (2, lambda xs, i: some(xs[i]) if i < len(xs) else NONE),
     "slice_set": (3, lambda xs, i, x: xs[:i] + (x,) + xs[i + 1:] if i < len(xs) else xs),
-    "slice_index_or": (3, lambda xs, i, x: xs[i] if i < len(xs) else x),
+    "get_or": (3, lambda xs, i, other: xs[i] if i < len(xs) else other), "slice_index_or": (3, lambda xs, i, x: xs[i] if i < len(xs) else x),
     "flat_map": (2, lambda f, xs: tuple(y for x in xs for y in call(f, x))),
+    "list_any": (2, lambda f, xs: any(call(f, x) for x in xs)), "list_all": (2, lambda f, xs: all(call(f, x) for x in xs)),
     "filter_map": (2, lambda f, xs: listed(call(f, x) for x in xs)), "range_with_len": (2, lambda first, n: tuple(range(first, first + n))),
     "pointwise": (3, lambda f, xs, ys: len(xs) == len(ys) and all(call(f, x, y) for x, y in zip(xs, ys))),
 }
@@ -75,6 +76,7 @@ EXPRESSION_PARTS = {
     "Parenthesized": ["E"], "Name": [None, "LLI"], "Call": [None, "LE"], "Cast": ["S", "E"], "SizeOf": [None, "OE"], "Unary": [None, "E"],
     "Binary": [None, "E", "E"], "At": ["E"], "Range": ["R"], "Set": ["LE"], "Bit": ["OE"], "Int": ["OE"], "Uint": ["OE"], "Angle": ["OE"],
 }
+ANGLE_PARTS = {"Sum": "AA", "Difference": "AA", "Opposite": "A", "Product": ["A", None], "Quotient": ["A", None]}
 STATEMENT_PARTS = {"If": [None, "LT", "OLT"], "While": [None, "LT"], "For": [None, None, None, "LT"]}
 
 
@@ -124,6 +126,11 @@ def statement_fold(of_statement):
     return fold
 
 
+def angle_fold(type_of_it, step, value):
+    return call(step, layer(ANGLE_PARTS, {"A": lambda x: angle_fold(type_of_it, step, x)}, value))
+
+
+add("fold-Angle", 3, angle_fold)
 for type_name in ("Expr", "Index", "Scalar", "Range"):
     add(f"fold-{type_name}", 9, expression_fold(type_name[0]))
     add(f"map-{type_name}", 13, expression_map)

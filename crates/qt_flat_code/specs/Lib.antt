@@ -5,4 +5,8 @@ pub mod Storing
 pub mod Measuring
 pub mod Phases
 pub mod GateCalls
-pub mod Straight
+pub mod Loops
+pub mod Statements
+pub mod CellsUsed
+pub mod Programs
+pub mod Flattening

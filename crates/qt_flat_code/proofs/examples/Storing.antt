@@ -1,8 +1,7 @@
--- Small programs, computed: their code, and that it ends as the meaning says.
+-- Programs that store and measure, computed: their code, and that its leaves are those of the meaning.
 use denote.Hole.Carrier.{hidden}
-use Rattle.std.proofs.Common.{◌≡◌, refl, ℕ, ◌+◌, true, List, [], ◌∷◌, ◌++◌, Option, Some, None}
-use Rattle.qt_tree.specs.declared.place.Place.{Place}
-use Rattle.qt_ring.specs.State.{zero_state, project, vanishes}
+use Rattle.std.proofs.Common.{◌≡◌, refl, ℕ, ◌+◌, true, List, [], ◌∷◌, Some, None}
+use Rattle.qt_ring.specs.State.{zero_state, project, vanishes, flip}
 use Rattle.qt_ring.specs.Ring.{plus, times, minus, nil, one, imaginary, the_omega}
 use Rattle.qt_value.specs.BitPlaces.{sum_below}
 use Rattle.qt_value.specs.declared.operators.Op.TheVariants as op
@@ -10,7 +9,6 @@ use Rattle.qt_value.specs.declared.types.ValueType.{ValueType}
 use Rattle.qt_value.specs.declared.types.ValueType.TheVariants as kind
 use Rattle.qt_registers.specs.declared.fixed.FixedQubit.TheVariants as fixed
 use Rattle.qt_typed.specs.declared.call.TypedQubit.TheVariants as qubit
-use Rattle.qt_typed.specs.declared.call.TypedQubits.{TypedQubits}
 use Rattle.qt_typed.specs.declared.call.TypedQubits.TheVariants as qubits
 use Rattle.qt_typed.specs.declared.expression.Logical.TheVariants as logical
 use Rattle.qt_typed.specs.declared.expression.TypedExpr.{TypedExpr}
@@ -20,105 +18,35 @@ use Rattle.qt_typed.specs.declared.expression.TypedStep.{TypedStep}
 use Rattle.qt_typed.specs.declared.expression.TypedStep.TheVariants as step
 use Rattle.qt_typed.specs.declared.expression.TypedTarget.{TypedTarget}
 use Rattle.qt_typed.specs.declared.expression.TypedVariable.TheVariants as variable
-use Rattle.qt_typed.specs.declared.statement.TypedAction.{TypedAction}
+use Rattle.qt_typed.specs.declared.program.Typed.{Typed}
 use Rattle.qt_typed.specs.declared.statement.TypedAction.TheVariants as action
 use Rattle.qt_typed.specs.declared.statement.TypedRight.TheVariants as right
-use Rattle.qt_typed.specs.declared.statement.TypedStatement.{TypedStatement}
 use Rattle.qt_typed.specs.declared.statement.TypedStatement.TheBlock.{hidden-the_row-TypedStatement-0}
-use Rattle.qt_typed.specs.declared.statement.TypedStatement.TheVariants as statement
-use Rattle.qt_meaning.specs.Places.{Site}
-use Rattle.qt_meaning.specs.Points.{Faulted, Leaf, On, Signal, leaf}
-use Rattle.qt_meaning.specs.Statements.{list_tree}
+use Rattle.qt_meaning.specs.Points.{Faulted}
 use Rattle.qt_meaning.specs.Values.{Index, converted_to, is_true, number_of, operated, place_in, slice_of, with_bit}
 use Rattle.qt_instructions.specs.declared.reference.QubitRef.TheVariants as reference
 use Rattle.qt_instructions.specs.declared.instruction.Instr.{Instr}
 use Rattle.qt_instructions.specs.declared.instruction.Instr.TheVariants as instr
 use Rattle.qt_instructions.specs.declared.instruction.Store.TheVariants as store
-use Rattle.qt_instructions.specs.declared.parts.Parts.{Parts}
-use Rattle.qt_code.specs.Tail.{leaves_from_start}
 use Rattle.qt_code.specs.Validity.{is_valid}
 use Rattle.qt_flat_code.specs.Expressions.{binary, on_places, operand, place_kind}
-use Rattle.qt_flat_code.specs.Straight.{straight_code}
-
--- ---- programs, their code and their meaning
-
-abbrev line : ℕ → Place
-line n = record { file = 0; line = n; column = 1 }
-
-abbrev at_line : ℕ → TypedAction → TypedStatement
-at_line n action = statement.Simple (record { place = line n; tokens = 1 }) action
-
-abbrev site : Site
-site = record { choices = 0; base = 0; qubits = 1; registers = λ n. [] }
-
-abbrev or_nothing : Option (List (Instr × Place)) → List (Instr × Place)
-or_nothing None = []
-or_nothing (Some code) = code
-
-abbrev instructions_of : List (Instr × Place) → List Instr
-instructions_of [] = []
-instructions_of (l ∷ ls) = l.0 ∷ instructions_of ls
-
-abbrev places_of : List (Instr × Place) → List Place
-places_of [] = []
-places_of (l ∷ ls) = l.1 ∷ places_of ls
-
-abbrev code_of : List TypedStatement → List (Instr × Place)
-code_of program = or_nothing (straight_code program site 0)
-
--- one qubit, three slots, eight work cells
-abbrev parts_of : List TypedStatement → Parts
-parts_of program =
-    record {
-      instructions = instructions_of (code_of program) ++ (instr.End ∷ []);
-      places = places_of (code_of program) ++ (line 100 ∷ []);
-      qubits = 1;
-      slots = 3;
-      cells = 8;
-      start = 0 ∷ 0 ∷ 0 ∷ [];
-      layout = [];
-      end = line 100;
-    }
-
-abbrev stores : List Leaf → List (List ℕ)
-stores [] = []
-stores (l ∷ ls) = l.point.store ∷ stores ls
-
-abbrev signals : List Leaf → List Signal
-signals [] = []
-signals (l ∷ ls) = l.signal ∷ signals ls
-
-abbrev leaves_in_meaning : List TypedStatement → ℕ → List Leaf
-leaves_in_meaning program fuel =
-    list_tree (λ n. 0) (λ n given at. leaf On) program site
-    (record { store = 0 ∷ 0 ∷ 0 ∷ []; state = zero_state 1; fuel = fuel; trail = [] })
-
-abbrev stores_in_meaning : List TypedStatement → ℕ → List (List ℕ)
-stores_in_meaning program fuel = stores (leaves_in_meaning program fuel)
-
-abbrev stores_in_code : List TypedStatement → ℕ → List (List ℕ)
-stores_in_code program fuel = stores (leaves_from_start (parts_of program) fuel)
+use Rattle.qt_flat_code.specs.Programs.{parts_of}
+use Rattle.qt_flat_code.proofs.examples.Words.{at_line, code_of, in_code, in_meaning, line, program, q, read, signals_of, small, stores_of, to, whole}
 
 -- ---- uint[8] x = 3; x += 4; bool b = x != 0 && 7 / x == 1;
 
-abbrev small : ℕ → TypedExpr
-small n = expression.Constant (record { kind = kind.Uint 8; bits = n })
-
-abbrev x : TypedExpr
-x = expression.Slot (kind.Uint 8) 0
-
 abbrev once : TypedExpr
 once =
-    expression.Logical logical.And (expression.Binary op.Ne x (small 0))
-    (expression.Binary op.Eq (expression.Binary op.Div (small 7) x) (small 1))
+    expression.Logical logical.And (expression.Binary op.Ne (read 0) (small 0))
+    (expression.Binary op.Eq (expression.Binary op.Div (small 7) (read 0)) (small 1))
 
-abbrev decided : List TypedStatement
+abbrev decided : Typed
 decided =
-    at_line 1 (action.Declare (kind.Uint 8) 0 (Some (right.Value (small 3))))
-    ∷ at_line 2 (action.Update (record { variable = variable.Slot (kind.Uint 8) 0; steps = []; kind = kind.Uint 8 }) op.Add (small 4))
-    ∷ at_line 3 (action.Declare kind.Bool 1 (Some (right.Value once))) ∷ []
+    program 3 (at_line 1 (action.Declare (kind.Uint 8) 0 (Some (right.Value (small 3))))
+    ∷ at_line 2 (action.Update (to 0) op.Add (small 4))
+    ∷ at_line 3 (action.Declare kind.Bool 1 (Some (right.Value once))) ∷ [])
 
-decided_code : instructions_of (code_of decided)
+decided_code : code_of decided
     ≡ instr.Tick
     ∷ instr.Load 0 3
     ∷ instr.Put 0 0
@@ -139,26 +67,24 @@ decided_code : instructions_of (code_of decided)
     ∷ binary 0 op.Div (operand 0 (kind.Uint 8)) (operand 1 (kind.Uint 8))
     ∷ instr.Load 1 1
     ∷ binary 0 op.Eq (operand 0 (kind.Uint 8)) (operand 1 (kind.Uint 8))
-    ∷ instr.Put 1 0 ∷ []
+    ∷ instr.Put 1 0
+    ∷ instr.End ∷ []
 unfolding hidden hidden-the_row-TypedExpr-0 hidden-the_row-TypedExpr-1 hidden-the_row-TypedStatement-0
 decided_code = refl
 
 decided_is_valid : is_valid (parts_of decided) ≡ true
-unfolding hidden hidden-the_row-TypedExpr-0 hidden-the_row-TypedExpr-1 hidden-the_row-TypedStatement-0
+unfolding zero_state operated converted_to is_true number_of place_in slice_of sum_below project vanishes flip with_bit plus times minus nil one imaginary the_omega hidden hidden-the_row-TypedExpr-0 hidden-the_row-TypedExpr-1 hidden-the_row-TypedStatement-0
 decided_is_valid = refl
 
-decided_in_code : stores_in_code decided 3 ≡ (7 ∷ 1 ∷ 0 ∷ []) ∷ []
-unfolding zero_state operated converted_to is_true hidden hidden-the_row-TypedExpr-0 hidden-the_row-TypedExpr-1 hidden-the_row-TypedStatement-0
+decided_in_code : in_code decided 3 ≡ in_meaning decided 3
+unfolding zero_state operated converted_to is_true number_of place_in slice_of sum_below project vanishes flip with_bit plus times minus nil one imaginary the_omega hidden hidden-the_row-TypedExpr-0 hidden-the_row-TypedExpr-1 hidden-the_row-TypedStatement-0
 decided_in_code = refl
 
-decided_in_meaning : stores_in_meaning decided 3 ≡ (7 ∷ 1 ∷ 0 ∷ []) ∷ []
-unfolding zero_state operated converted_to is_true hidden hidden-the_row-TypedExpr-0 hidden-the_row-TypedExpr-1 hidden-the_row-TypedStatement-0
+decided_in_meaning : stores_of (in_meaning decided 3) ≡ (7 ∷ 1 ∷ 0 ∷ []) ∷ []
+unfolding zero_state operated converted_to is_true number_of place_in slice_of sum_below project vanishes flip with_bit plus times minus nil one imaginary the_omega hidden hidden-the_row-TypedExpr-0 hidden-the_row-TypedExpr-1 hidden-the_row-TypedStatement-0
 decided_in_meaning = refl
 
 -- ---- array[uint[8], 2] a = {1, 2}; a[-1] = 9 / a[0]; bit c = measure q;
-
-abbrev whole : ℕ → TypedExpr
-whole n = expression.Constant (record { kind = kind.Int 64; bits = n })
 
 abbrev of_a : TypedExpr → TypedExpr
 of_a index = expression.Element (kind.Uint 8) 0 (2 ∷ []) (index ∷ [])
@@ -167,13 +93,13 @@ of_a index = expression.Element (kind.Uint 8) 0 (2 ∷ []) (index ∷ [])
 abbrev last : TypedExpr
 last = whole 18446744073709551615
 
-abbrev elements : List TypedStatement
+abbrev elements : Typed
 elements =
-    at_line 1 (action.DeclareArray (kind.Uint 8) 0 2 (Some (small 1 ∷ small 2 ∷ [])))
+    program 3 (at_line 1 (action.DeclareArray (kind.Uint 8) 0 2 (Some (small 1 ∷ small 2 ∷ [])))
     ∷ at_line 2 (action.Assign
     (record { variable = variable.Element (kind.Uint 8) 0 (2 ∷ []) (last ∷ []); steps = []; kind = kind.Uint 8 })
     (right.Value (expression.Binary op.Div (small 9) (of_a (whole 0)))))
-    ∷ at_line 3 (action.Declare (kind.Bit 1) 2 (Some (right.Measure (qubits.Single (qubit.Fixed (fixed.Number 0)))))) ∷ []
+    ∷ at_line 3 (action.Declare (kind.Bit 1) 2 (Some (right.Measure (qubits.Single (qubit.Fixed (fixed.Number 0)))))) ∷ [])
 
 -- an index in the next cell is tested, counted from the beginning, and joins the place in the cell
 abbrev indexed : ℕ → List Instr → List Instr
@@ -186,7 +112,7 @@ indexed cell rest =
     ∷ on_places cell op.Mul (cell + 2)
     ∷ on_places cell op.Add (cell + 1) ∷ rest
 
-elements_code : instructions_of (code_of elements)
+elements_code : code_of elements
     ≡ instr.Tick
     ∷ instr.Load 0 1
     ∷ instr.Load 1 2
@@ -202,20 +128,21 @@ elements_code : instructions_of (code_of elements)
     ∷ instr.Load 2 18446744073709551615
     ∷ indexed 1 (instr.PutAt 0 2 (operand 1 place_kind) 0
     ∷ instr.Tick
-    ∷ instr.Measure (reference.At 0) (store.Bit 2 0) ∷ []))
+    ∷ instr.Measure (reference.At 0) (store.Bit 2 0)
+    ∷ instr.End ∷ []))
 unfolding hidden hidden-the_row-TypedExpr-0 hidden-the_row-TypedExpr-1 hidden-the_row-TypedStatement-0
 elements_code = refl
 
 elements_is_valid : is_valid (parts_of elements) ≡ true
-unfolding hidden hidden-the_row-TypedExpr-0 hidden-the_row-TypedExpr-1 hidden-the_row-TypedStatement-0
+unfolding zero_state operated converted_to is_true number_of place_in slice_of sum_below project vanishes flip with_bit plus times minus nil one imaginary the_omega hidden hidden-the_row-TypedExpr-0 hidden-the_row-TypedExpr-1 hidden-the_row-TypedStatement-0
 elements_is_valid = refl
 
-elements_in_code : stores_in_code elements 3 ≡ (1 ∷ 9 ∷ 0 ∷ []) ∷ []
-unfolding zero_state operated converted_to number_of place_in project vanishes with_bit plus times minus nil one imaginary the_omega hidden hidden-the_row-TypedExpr-0 hidden-the_row-TypedExpr-1 hidden-the_row-TypedStatement-0
+elements_in_code : in_code elements 3 ≡ in_meaning elements 3
+unfolding zero_state operated converted_to is_true number_of place_in slice_of sum_below project vanishes flip with_bit plus times minus nil one imaginary the_omega hidden hidden-the_row-TypedExpr-0 hidden-the_row-TypedExpr-1 hidden-the_row-TypedStatement-0
 elements_in_code = refl
 
-elements_in_meaning : stores_in_meaning elements 3 ≡ (1 ∷ 9 ∷ 0 ∷ []) ∷ []
-unfolding zero_state operated converted_to number_of place_in project vanishes with_bit plus times minus nil one imaginary the_omega hidden hidden-the_row-TypedExpr-0 hidden-the_row-TypedExpr-1 hidden-the_row-TypedStatement-0
+elements_in_meaning : stores_of (in_meaning elements 3) ≡ (1 ∷ 9 ∷ 0 ∷ []) ∷ []
+unfolding zero_state operated converted_to is_true number_of place_in slice_of sum_below project vanishes flip with_bit plus times minus nil one imaginary the_omega hidden hidden-the_row-TypedExpr-0 hidden-the_row-TypedExpr-1 hidden-the_row-TypedStatement-0
 elements_in_meaning = refl
 
 -- ---- bit[4] b; int i = -1; b[1:3][i] = 1; b[0:2:2] ^= "11";
@@ -229,11 +156,11 @@ i = expression.Slot (kind.Int 64) 1
 abbrev bit_text : ℕ → ℕ → TypedExpr
 bit_text width bits = expression.Constant (record { kind = kind.Bit width; bits = bits })
 
-abbrev bits : List TypedStatement
+abbrev bits : Typed
 bits =
-    at_line 1 (action.Declare (kind.Int 64) 1 (Some (right.Value last)))
+    program 3 (at_line 1 (action.Declare (kind.Int 64) 1 (Some (right.Value last)))
     ∷ at_line 2 (action.Assign (b_steps (step.Slice 1 1 3 ∷ step.At i ∷ []) (kind.Bit 1)) (right.Value (bit_text 1 1)))
-    ∷ at_line 3 (action.Update (b_steps (step.Slice 0 2 2 ∷ []) (kind.Bit 2)) op.Xor (bit_text 2 3)) ∷ []
+    ∷ at_line 3 (action.Update (b_steps (step.Slice 0 2 2 ∷ []) (kind.Bit 2)) op.Xor (bit_text 2 3)) ∷ [])
 
 -- from a value in a cell to bits of another
 abbrev moved : ℕ → ValueType → ℕ → ℕ → ValueType → ℕ → ℕ → List Instr → List Instr
@@ -243,7 +170,7 @@ moved from of read to into write used rest =
     ∷ instr.Load used write
     ∷ instr.BitPut (operand to into) (operand used (kind.Uint 8)) (used + 1) ∷ rest
 
-bits_code : instructions_of (code_of bits)
+bits_code : code_of bits
     ≡ instr.Tick
     ∷ instr.Load 0 18446744073709551615
     ∷ instr.Put 1 0
@@ -271,20 +198,21 @@ bits_code : instructions_of (code_of bits)
     ∷ instr.Cast 0 (operand 0 (kind.Bit 2)) (kind.Bit 2)
     ∷ instr.Get 3 0
     ∷ moved 0 (kind.Bit 2) 0 3 (kind.Bit 4) 0 4 (moved 0 (kind.Bit 2) 1 3 (kind.Bit 4) 2 4 (
-    instr.Put 0 3 ∷ []))))
+    instr.Put 0 3
+    ∷ instr.End ∷ []))))
 unfolding hidden hidden-the_row-TypedExpr-0 hidden-the_row-TypedExpr-1 hidden-the_row-TypedStatement-0
 bits_code = refl
 
 bits_are_valid : is_valid (parts_of bits) ≡ true
-unfolding hidden hidden-the_row-TypedExpr-0 hidden-the_row-TypedExpr-1 hidden-the_row-TypedStatement-0
+unfolding zero_state operated converted_to is_true number_of place_in slice_of sum_below project vanishes flip with_bit plus times minus nil one imaginary the_omega hidden hidden-the_row-TypedExpr-0 hidden-the_row-TypedExpr-1 hidden-the_row-TypedStatement-0
 bits_are_valid = refl
 
-bits_in_code : stores_in_code bits 3 ≡ (13 ∷ 18446744073709551615 ∷ 0 ∷ []) ∷ []
-unfolding zero_state operated converted_to number_of place_in slice_of with_bit hidden hidden-the_row-TypedExpr-0 hidden-the_row-TypedExpr-1 hidden-the_row-TypedStatement-0
+bits_in_code : in_code bits 3 ≡ in_meaning bits 3
+unfolding zero_state operated converted_to is_true number_of place_in slice_of sum_below project vanishes flip with_bit plus times minus nil one imaginary the_omega hidden hidden-the_row-TypedExpr-0 hidden-the_row-TypedExpr-1 hidden-the_row-TypedStatement-0
 bits_in_code = refl
 
-bits_in_meaning : stores_in_meaning bits 3 ≡ (13 ∷ 18446744073709551615 ∷ 0 ∷ []) ∷ []
-unfolding zero_state operated converted_to number_of place_in slice_of sum_below with_bit hidden hidden-the_row-TypedExpr-0 hidden-the_row-TypedExpr-1 hidden-the_row-TypedStatement-0
+bits_in_meaning : stores_of (in_meaning bits 3) ≡ (13 ∷ 18446744073709551615 ∷ 0 ∷ []) ∷ []
+unfolding zero_state operated converted_to is_true number_of place_in slice_of sum_below project vanishes flip with_bit plus times minus nil one imaginary the_omega hidden hidden-the_row-TypedExpr-0 hidden-the_row-TypedExpr-1 hidden-the_row-TypedStatement-0
 bits_in_meaning = refl
 
 -- ---- array[uint[4], 2] a; int i = -2; a[1][i] = measure q; measure r -> b[2:3]; measure q; reset q; a[2] = 1;
@@ -298,19 +226,16 @@ of_first = record { variable = variable.Element (kind.Uint 4) 0 (2 ∷ []) (whol
 abbrev beyond : TypedTarget
 beyond = record { variable = variable.Element (kind.Uint 4) 0 (2 ∷ []) (whole 2 ∷ []); steps = []; kind = kind.Uint 4 }
 
-abbrev q : TypedQubits
-q = qubits.Single (qubit.Fixed (fixed.Number 0))
-
-abbrev outcomes : List TypedStatement
+abbrev outcomes : Typed
 outcomes =
-    at_line 1 (action.Declare (kind.Int 64) 2 (Some (right.Value (whole 18446744073709551614))))
+    program 3 (at_line 1 (action.Declare (kind.Int 64) 2 (Some (right.Value (whole 18446744073709551614))))
     ∷ at_line 2 (action.Assign second (right.Measure q))
     ∷ at_line 3 (action.Measure (qubits.Register (fixed.Number 0 ∷ fixed.Number 0 ∷ [])) (Some of_first))
     ∷ at_line 4 (action.Measure q None)
     ∷ at_line 5 (action.Reset q)
-    ∷ at_line 6 (action.Assign beyond (right.Value (small 1))) ∷ []
+    ∷ at_line 6 (action.Assign beyond (right.Value (small 1))) ∷ [])
 
-outcomes_code : instructions_of (code_of outcomes)
+outcomes_code : code_of outcomes
     ≡ instr.Tick
     ∷ instr.Load 0 18446744073709551614
     ∷ instr.Put 2 0
@@ -337,18 +262,19 @@ outcomes_code : instructions_of (code_of outcomes)
     ∷ instr.Load 0 1
     ∷ instr.Load 1 0
     ∷ instr.Load 2 2
-    ∷ indexed 1 (instr.PutAt 0 2 (operand 1 place_kind) 0 ∷ [])
+    ∷ indexed 1 (instr.PutAt 0 2 (operand 1 place_kind) 0
+    ∷ instr.End ∷ [])
 unfolding place_in number_of hidden hidden-the_row-TypedExpr-0 hidden-the_row-TypedExpr-1 hidden-the_row-TypedStatement-0
 outcomes_code = refl
 
 outcomes_are_valid : is_valid (parts_of outcomes) ≡ true
-unfolding place_in number_of hidden hidden-the_row-TypedExpr-0 hidden-the_row-TypedExpr-1 hidden-the_row-TypedStatement-0
+unfolding zero_state operated converted_to is_true number_of place_in slice_of sum_below project vanishes flip with_bit plus times minus nil one imaginary the_omega hidden hidden-the_row-TypedExpr-0 hidden-the_row-TypedExpr-1 hidden-the_row-TypedStatement-0
 outcomes_are_valid = refl
 
-outcomes_in_code : leaves_from_start (parts_of outcomes) 6 ≡ leaves_in_meaning outcomes 6
-unfolding zero_state operated converted_to number_of place_in slice_of project vanishes with_bit plus times minus nil one imaginary the_omega hidden hidden-the_row-TypedExpr-0 hidden-the_row-TypedExpr-1 hidden-the_row-TypedStatement-0
+outcomes_in_code : in_code outcomes 6 ≡ in_meaning outcomes 6
+unfolding zero_state operated converted_to is_true number_of place_in slice_of sum_below project vanishes flip with_bit plus times minus nil one imaginary the_omega hidden hidden-the_row-TypedExpr-0 hidden-the_row-TypedExpr-1 hidden-the_row-TypedStatement-0
 outcomes_in_code = refl
 
-outcomes_in_meaning : signals (leaves_in_meaning outcomes 6) ≡ Faulted Index (line 6) ∷ []
-unfolding zero_state operated converted_to number_of place_in slice_of project vanishes with_bit plus times minus nil one imaginary the_omega hidden hidden-the_row-TypedExpr-0 hidden-the_row-TypedExpr-1 hidden-the_row-TypedStatement-0
+outcomes_in_meaning : signals_of (in_meaning outcomes 6) ≡ Faulted Index (line 6) ∷ []
+unfolding zero_state operated converted_to is_true number_of place_in slice_of sum_below project vanishes flip with_bit plus times minus nil one imaginary the_omega hidden hidden-the_row-TypedExpr-0 hidden-the_row-TypedExpr-1 hidden-the_row-TypedStatement-0
 outcomes_in_meaning = refl

@@ -1,0 +1,5 @@
+mod Words
+mod Storing
+mod Bodies
+mod Calling
+mod Answering
