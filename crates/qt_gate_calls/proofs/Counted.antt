@@ -49,9 +49,6 @@ product_stopped (suc k) n = by_size (cases_lt n 4294967295)
 sums_stop : (a b : ℕ) → stopped (stopped a + stopped b) ≡ stopped (a + b)
 sums_stop a b = omega arith
 
-pub stops_behind : (a b : ℕ) → stopped (a + stopped b) ≡ stopped (a + b)
-stops_behind a b = omega arith
-
 sum_stopped : (a b c d : ℕ) → stopped a ≡ stopped c → stopped b ≡ stopped d → stopped (a + b) ≡ stopped (c + d)
 sum_stopped a b c d e f = omega arith
 
@@ -116,26 +113,6 @@ calls_operators_meet f g h (c ∷ calls) =
     (sum_stopped c.operators (call_operators f c.modifiers c.gate) c.operators (call_operators g c.modifiers c.gate) refl
     (call_operators_meet f g h c.modifiers c.gate))
     (calls_operators_meet f g h calls)
-
--- the first call of a body, and the rest of its slice, for a count that is a sum over the calls
-pub first_counted : (own : BodyCall → ℕ) (count : List BodyCall → ℕ)
-    → ((c : BodyCall) (rest : List BodyCall) → count (c ∷ rest) ≡ own c + count rest)
-    → (calls : List BodyCall) (call : BodyCall) (x y both : ℕ) → 1 ≤ length calls → call ≡ get_or calls 0 call
-    → x ≡ stopped (own call) → y ≡ stopped (count (take (length calls - 1) (drop 1 calls)))
-    → both ≡ stopped (x + y) → both ≡ stopped (count calls)
-first_counted own count more [] call x y both h e here later sum = absurd (omega arith)
-first_counted own count more (c ∷ rest) call x y both h e here later sum =
-    let n : length (c ∷ rest) - 1 ≡ length rest = omega arith in
-    let behind : take (length (c ∷ rest) - 1) (drop 1 (c ∷ rest)) ≡ rest = ap (λ k. take k rest) n ∙ take_all rest in
-    sum
-    ∙ ap (λ t. stopped (t + y)) (here ∙ ap (λ (t : BodyCall). stopped (own t)) e)
-    ∙ ap (λ t. stopped (stopped (own c) + t)) (later ∙ ap (λ (t : List BodyCall). stopped (count t)) behind)
-    ∙ sums_stop (own c) (count rest)
-    ∙ ap stopped (sym (more c rest))
-  where
-    take_all : (xs : List BodyCall) → take (length xs) xs ≡ xs
-    take_all [] = refl
-    take_all (x ∷ xs) = ap (λ t. x ∷ t) (take_all xs)
 
 -- ---- gates by number, with one more behind them
 

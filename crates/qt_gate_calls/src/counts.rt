@@ -102,14 +102,16 @@ fn together(one: GateCount, other: GateCount) -> GateCount
 }
 
 /// What the calls of a body come to.
-fn calls_count(counts: &[GateCount], calls: &[BodyCall]) -> GateCount
-    ensures primitives { result.primitives ≡ stopped (spec.calls_count (primitives_in counts.now) calls.now) }
-    ensures operators { result.operators ≡ stopped (spec.calls_operators (operators_in counts.now) calls.now) }
+fn calls_count(counts: &[GateCount], mut calls: &[BodyCall]) -> GateCount
+    ensures primitives { result.primitives ≡ stopped (spec.calls_count (primitives_in counts.now) calls.entry.now) }
+    ensures operators { result.operators ≡ stopped (spec.calls_operators (operators_in counts.now) calls.entry.now) }
 {
-    match calls {
-        [] => NOTHING,
-        [first, rest @ ..] => together(body_call_count(counts, first), calls_count(counts, rest)),
+    let mut count = NOTHING;
+    while let [first, rest @ ..] = calls {
+        count = together(count, body_call_count(counts, first));
+        calls = rest;
     }
+    count
 }
 
 /// What the gates with these bodies come to, each over those before it.
