@@ -1,10 +1,7 @@
 -- What an expression is typed as fits.
-use Rattle.std.proofs.Common.{◌≡◌, ℕ, Bool, true, false, List, [], ◌∷◌, ◌++◌, length, map, Option, Some, None, refl, sym, subst}
-use Rattle.std.specs.Prelude.{nat_eq, if◌then◌else◌}
-use Rattle.std.specs.Cmp.Lexicographic.{pointwise}
-use Rattle.std.specs.Option.{option_or}
+use Rattle.std.proofs.Common.{◌≡◌, ℕ, List, [], ◌∷◌, ◌++◌, length, map, Option, Some, None, refl, sym, subst}
 use Rattle.qt_names.specs.Entries as scope
-use Rattle.qt_names.specs.Scopes.{found, found_in, or_unknown}
+use Rattle.qt_names.specs.Scopes.{found}
 use Rattle.qt_names.specs.declared.named.Named.{Named}
 use Rattle.qt_names.specs.declared.named.What.{What}
 use Rattle.qt_names.specs.declared.named.What.TheVariants as what
@@ -40,43 +37,17 @@ use Rattle.qt_typing.specs.declared.way.Way.TheVariants.{Written}
 use Rattle.qt_typing.specs.Checked.{and_then}
 use Rattle.qt_typing.specs.Indexes.{Part, IndexPart, Reached, all_indexes}
 use Rattle.qt_typing.specs.Expressions.{arity, as_written, between_operands, bits_of, builtin_at, builtin_call, constant_bits, constant_operand, counted, expr_step, form_typed, index_part, index_step, inner_mode, kind_of, name_operand, named_constant, of_constant, or_unfit, part_of, range_step, read, rotated, scalar_step, storage_of, turned, turned_row, typed_of, unassigned, variable_operand}
-use Rattle.qt_typing_laws.specs.Fits.{ConstantFits, NamedFits, NamesFit, OperandFits, ScopeFits, ScopesFit, StorageFits}
+use Rattle.qt_typing_laws.specs.Fits.{ConstantFits, NamedFits, NamesFit, OperandFits, StorageFits}
 use Rattle.qt_typing_laws.specs.Laws.{ExpressionsAreTyped}
 use Rattle.qt_typing_laws.proofs.Constants.{known_fits, named_fits}
 use Rattle.qt_typing_laws.proofs.Conversions.{constant_fits, type_sized_at, wanted_fits}
-use Rattle.qt_typing_laws.proofs.Holding.{Holds, ok_holds, err_holds, any_holds, then_holds, answer_holds, IfSome, some_is, none_is}
+use Rattle.qt_typing_laws.proofs.Holding.{Holds, ok_holds, err_holds, any_holds, then_holds, answer_holds}
 use Rattle.qt_typing_laws.proofs.Indexes.{PartFits, ShapeFits, ShapesFit, NoStep, reached_fits, stepped_fits, steps_fit, variable_read}
+use Rattle.qt_typing_laws.proofs.Names.{found_is, known_name}
 use Rattle.qt_typing_laws.proofs.Operators.{before_fits, both_true_fit, combined_fits, unary_row_fits}
 use Rattle.qt_typing_laws.proofs.Views.{ValueFits, binary_fits, value_sized}
 
 -- ---- names
-
-in_scope : (slots : ℕ) (b : Bool) (it : Named) (other : Option Named) → NamedFits slots it → IfSome (NamedFits slots) other
-    → IfSome (NamedFits slots) (if b then Some it else other)
-in_scope slots true it other h g = some_is h
-in_scope slots false it other h g = g
-
-found_in_fits : (slots : ℕ) (entries : List scope.Entry) (name : scope.Name) → ScopeFits slots entries
-    → IfSome (NamedFits slots) (found_in entries name)
-unfolding found_in
-found_in_fits slots [] name h = none_is
-found_in_fits slots (entry ∷ rest) name h =
-    in_scope slots (pointwise nat_eq name entry.name) entry.named (found_in rest name) h.0 (found_in_fits slots rest name h.1)
-
-either : (slots : ℕ) (a b : Option Named) → IfSome (NamedFits slots) a → IfSome (NamedFits slots) b → IfSome (NamedFits slots) (option_or a b)
-either slots None b h g = g
-either slots (Some it) b h g = h
-
-pub found_fits : (slots : ℕ) (scopes : List (List scope.Entry)) (name : scope.Name) → ScopesFit slots scopes
-    → IfSome (NamedFits slots) (found scopes name)
-found_fits slots [] name h = none_is
-found_fits slots (inner ∷ outer) name h =
-    either slots (found_in inner name) (found outer name) (found_in_fits slots inner name h.0) (found_fits slots outer name h.1)
-
-pub known_name : (slots : ℕ) (name : scope.Name) (place : Place) (it : Option Named) → IfSome (NamedFits slots) it
-    → Holds (NamedFits slots) (or_unknown name place it)
-known_name slots name place None h = err_holds
-known_name slots name place (Some it) h = ok_holds (h.by it refl)
 
 pub storage_fits : (slots : ℕ) (place : Place) (name : scope.Name) (it : Named) (t : Option Storage) → NamedFits slots it
     → storage_of it ≡ t → Holds (StorageFits slots) (or_unfit place name t)
@@ -231,7 +202,7 @@ module _ (slots : ℕ) (names : Names) (fits : NamesFit slots names) where
       form_fits (o.Expr::Bool b) whole m = constant_operand_fits m place whole
       form_fits (o.Parenthesized inner) whole m = ka inner m
       form_fits (o.Name name brackets) whole m =
-          then_holds (known_name slots name place (found names.scopes name) (found_fits slots names.scopes name fits.0))
+          then_holds (known_name name place (found names.scopes name) (found_is (NamedFits slots) names.scopes name fits.0))
           (λ it h. name_typed m place name _ it.what it h (each_bracket brackets))
       form_fits (o.Call name arguments) whole m =
           then_holds {r = builtin_at place name (found names.scopes name)} any_holds (λ b _. call_fits m place _ b (each_expr m arguments))

@@ -1,4 +1,5 @@
 pub mod Holding
+pub mod Names
 pub mod Sizes
 pub mod Constants
 pub mod Views
@@ -6,3 +7,8 @@ pub mod Conversions
 pub mod Operators
 pub mod Indexes
 pub mod Expressions
+pub mod Qubits
+pub mod Gates
+pub mod Calls
+pub mod Keeping
+pub mod Statements

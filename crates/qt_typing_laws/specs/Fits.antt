@@ -34,13 +34,14 @@ StorageFits slots it = IsTrue (has_size it.kind) × RoomFits slots it.slot it.le
 abbrev pub NamedFits : ℕ → Named → Type 0
 NamedFits slots it = (kept : Storage) → storage_of it ≡ Some kept → StorageFits slots kept
 
-abbrev pub ScopeFits : ℕ → List scope.Entry → Type 0
-ScopeFits slots [] = Unit {0}
-ScopeFits slots (entry ∷ rest) = NamedFits slots entry.named × ScopeFits slots rest
+-- each name in a scope, and in all scopes, stands for what fits
+abbrev pub InScope : (Named → Type 0) → List scope.Entry → Type 0
+InScope P [] = Unit {0}
+InScope P (entry ∷ rest) = P entry.named × InScope P rest
 
-abbrev pub ScopesFit : ℕ → List (List scope.Entry) → Type 0
-ScopesFit slots [] = Unit {0}
-ScopesFit slots (inner ∷ outer) = ScopeFits slots inner × ScopesFit slots outer
+abbrev pub InScopes : (Named → Type 0) → List (List scope.Entry) → Type 0
+InScopes P [] = Unit {0}
+InScopes P (inner ∷ outer) = InScope P inner × InScopes P outer
 
 -- a constant that is a value has a type with a size
 abbrev pub ConstantFits : ConstValue → Type 0
@@ -57,7 +58,7 @@ ConstantsFit (entry ∷ later) = KnownFits entry.known × ConstantsFit later
 
 -- the names in scope, in a frame of so many slots
 abbrev pub NamesFit : ℕ → Names → Type 0
-NamesFit slots names = ScopesFit slots names.scopes × ConstantsFit names.consts
+NamesFit slots names = InScopes (NamedFits slots) names.scopes × ConstantsFit names.consts
 
 -- ---- what an expression is typed as
 

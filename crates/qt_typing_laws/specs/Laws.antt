@@ -1,15 +1,28 @@
 -- What the typing gives fits (OpenQASM 3.0 live specification, "Types and Casting" and "Classical instructions"; Cross et al. 2022).
-use Rattle.std.specs.Prelude.{◌≡◌, ℕ, Ok}
+use Rattle.std.specs.Prelude.{◌≡◌, ℕ, Option, Ok}
 use Rattle.qt_const_rules.specs.declared.modes.Mode.{Mode}
 use Rattle.qt_tree.specs.declared.expression.Expr.{Expr}
 use Rattle.qt_tree.specs.declared.place.Place.{Place}
+use Rattle.qt_tree.specs.declared.statement.Statement.{Statement}
+use Rattle.qt_typed.specs.declared.statement.TypedStatement.{TypedStatement}
+use Rattle.qt_meaning.specs.WellFormed.{Scope}
 use Rattle.qt_typing.specs.Expressions.{typed_of}
+use Rattle.qt_typing.specs.Statements.{statement_typing}
+use Rattle.qt_typing.specs.declared.state.Around.{Around}
+use Rattle.qt_typing.specs.declared.state.State.{State}
 use Rattle.qt_typing.specs.declared.names.Names.{Names}
 use Rattle.qt_typing.specs.declared.operand.Operand.{Operand}
 use Rattle.qt_typing_laws.specs.Fits.{NamesFit, OperandFits}
+use Rattle.qt_typing_laws.specs.Seen.{IsSeen, StatementFits}
 
 -- what an expression is typed as fits the frame, and has the type that is told
 abbrev pub ExpressionsAreTyped : Type 0
 ExpressionsAreTyped =
     (slots : ℕ) (names : Names) (m : Mode) (place : Place) (expr : Expr) (typed : Operand) → NamesFit slots names
     → typed_of names m place expr ≡ Ok typed → OperandFits slots typed
+
+-- where what a statement sees is sound, each action that it is typed as is well formed, and what the next one sees is sound
+abbrev pub StatementsAreWellFormed : Type 0
+StatementsAreWellFormed =
+    (scope : Scope) (statement : Statement) (around : Around) (old new : State) (typed : Option TypedStatement) → IsSeen scope old
+    → statement_typing statement around old ≡ Ok (typed, new) → StatementFits scope typed × IsSeen scope new
