@@ -57,7 +57,7 @@ def typing(case):
     """The typed program, or the refusal."""
     settings = [setting.split("=", 1) for setting in case.get("settings", [])]
     given = tuple(Record(name=codes(name), value=codes(value)) for name, value in settings)
-    return call(word("Rattle.qt_typing.specs.Programs", "typing_of"), given, Program(case["text"]).tree())
+    return call(word("Rattle.qt_typing.specs.Programs", "typing_of"), given, Program(case["text"], case.get("files")).tree())
 
 
 # ---- which fault is told

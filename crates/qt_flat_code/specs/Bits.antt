@@ -1,6 +1,6 @@
 -- Which bits of a variable a target is (flat code is this profile's; OpenQASM 3.0 live specification, "Types and Casting": index sets and
 -- slicing). All steps of a target but those by an index are known before the run, and behind an index there is one bit.
-use Rattle.std.specs.Prelude.{ℕ, ◌+◌, ◌*◌, List, [], ◌∷◌}
+use Rattle.std.specs.Prelude.{ℕ, ◌+◌, ◌*◌, min, List, [], ◌∷◌}
 use Rattle.qt_value.specs.Types.{width_of}
 use Rattle.qt_typed.specs.declared.expression.TypedStep.{TypedStep}
 use Rattle.qt_typed.specs.declared.expression.TypedStep.TheVariants as step
@@ -13,9 +13,9 @@ pub data Bits : Type 0 where
   EveryBit : ℕ → ℕ → ℕ → Bits
   OneBit : Bits
 
--- a slice of bits; that of one bit is that bit
+-- a slice of bits; that of one bit is that bit. A step of more than 64 places goes to one place alone, as one of 64 does
 abbrev pub sliced : ℕ → ℕ → ℕ → Bits → Bits
-sliced start by count (EveryBit first step n) = EveryBit (first + start * step) (by * step) count
+sliced start by count (EveryBit first step n) = EveryBit (first + start * step) (min (by * step) 64) count
 sliced start by count bits = bits
 
 abbrev pub bits_after : List TypedStep → Bits → Bits
