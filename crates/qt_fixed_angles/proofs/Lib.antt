@@ -3,3 +3,4 @@ pub mod Expanding
 pub mod Views
 pub mod Marking
 pub mod Programs
+mod examples

@@ -57,10 +57,7 @@ pub fn use_angle(
 
 /// The first wrong angle of a call on registers: that of its first place, if it has one.
 #[tactic(auto, using(crate::proofs::Expanding::some_times))]
-pub fn broadcast_angle(
-    alloc: Global,
-    call: &Broadcast,
-) -> Result<Option<WrongAngle>, OutOfMemory>
+pub fn broadcast_angle(alloc: Global, call: &Broadcast) -> Result<Option<WrongAngle>, OutOfMemory>
     ensures { IfOk result (λ angle. angle
         ≡ spec.times_angle call.now.size (spec.use_angle call.now.place call.now.used)) }
 {

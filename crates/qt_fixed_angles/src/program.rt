@@ -52,10 +52,7 @@ fn angles_of(
 /// The first fixed angle of a program that is no multiple of π/4, in the order of flat code: a subroutine's calls count where it is first
 /// put in, and those of one that is put in nowhere aren't tested. It has the place of the gate call and its exact units. OpenQASM 3.0,
 /// "Gates" and "Subroutines".
-pub fn first_wrong_angle(
-    alloc: Global,
-    program: &Typed,
-) -> Result<Option<WrongAngle>, OutOfMemory>
+pub fn first_wrong_angle(alloc: Global, program: &Typed) -> Result<Option<WrongAngle>, OutOfMemory>
     ensures { IfOk result (λ angle. angle ≡ spec.first_wrong_angle program.now) }
 {
     let subroutines = program.subroutines.as_slice();

@@ -74,7 +74,9 @@ fn mark_statement(flags: &mut Items<bool>, below: usize, statement: &TypedStatem
     match statement {
         TypedStatement::Simple { action, .. } => mark_action(flags, below, action),
         TypedStatement::If {
-            body, otherwise, ..
+            body,
+            otherwise,
+            ..
         } => mark_branch(flags, below, body.as_slice(), otherwise.as_slice()),
         TypedStatement::Loop { body, .. } => mark_list(flags, below, body.as_slice()),
     }

@@ -30,10 +30,7 @@ fn right_angle(known: &[Option<WrongAngle>], right: &TypedRight) -> Option<Wrong
 }
 
 /// The angle of a right side, where there is one.
-fn optional_angle(
-    known: &[Option<WrongAngle>],
-    right: &Option<TypedRight>,
-) -> Option<WrongAngle>
+fn optional_angle(known: &[Option<WrongAngle>], right: &Option<TypedRight>) -> Option<WrongAngle>
     ensures { result ≡ spec.optional_angle (angle_in known.now) right.now }
 {
     match right {
@@ -74,7 +71,9 @@ fn statement_angle(
     match statement {
         TypedStatement::Simple { action, .. } => action_angle(alloc, known, action),
         TypedStatement::If {
-            body, otherwise, ..
+            body,
+            otherwise,
+            ..
         } => branch_angle(alloc, known, body.as_slice(), otherwise.as_slice()),
         TypedStatement::Loop { body, .. } => list_angle(alloc, known, body.as_slice()),
     }
