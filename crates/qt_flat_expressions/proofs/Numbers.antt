@@ -16,7 +16,7 @@ abbrev pub IsSmall : ℤ → Type 0
 IsSmall (pos x) = x < 2 ^ 63
 IsSmall (negsuc i) = i < 2 ^ 63
 
-residue_below : (z : ℤ) → residue 64 z < 2 ^ 64
+pub residue_below : (z : ℤ) → residue 64 z < 2 ^ 64
 residue_below (pos x) = mod-lt x (omega arith)
 residue_below (negsuc i) = let h : i % 2 ^ 64 < 2 ^ 64 = mod-lt i (omega arith) in omega arith
 
@@ -27,7 +27,7 @@ signed_high : (x : ℕ) → 2 ^ 63 ≤ x → signed_number 64 x ≡ pos x -ℤ p
 signed_high x h = ap (λ b. cond b (pos x) (pos x -ℤ pos (2 ^ 64))) (le-ltb x (2 ^ 63) h)
 
 -- the bits of a small number are read as it
-signed_back : (z : ℤ) → IsSmall z → signed_number 64 (residue 64 z) ≡ z
+pub signed_back : (z : ℤ) → IsSmall z → signed_number 64 (residue 64 z) ≡ z
 signed_back (pos x) h =
     let e : x % 2 ^ 64 ≡ x = mod-eq_of_lt (omega arith) in
     ap (signed_number 64) e ∙ signed_low x h
