@@ -12,3 +12,4 @@ pub mod Gates
 pub mod Calls
 pub mod Keeping
 pub mod Statements
+pub mod GateItems

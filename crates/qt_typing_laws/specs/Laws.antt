@@ -3,15 +3,20 @@ use Rattle.std.specs.Prelude.{◌≡◌, ℕ, Option, Ok}
 use Rattle.qt_const_rules.specs.declared.modes.Mode.{Mode}
 use Rattle.qt_tree.specs.declared.expression.Expr.{Expr}
 use Rattle.qt_tree.specs.declared.place.Place.{Place}
+use Rattle.std.specs.List.{All}
+use Rattle.qt_gate_calls.specs.declared.body.GateBody.{GateBody}
+use Rattle.qt_tree.specs.declared.program.GateItem.{GateItem}
 use Rattle.qt_tree.specs.declared.statement.Statement.{Statement}
 use Rattle.qt_typed.specs.declared.statement.TypedStatement.{TypedStatement}
-use Rattle.qt_meaning.specs.WellFormed.{Scope}
+use Rattle.qt_meaning.specs.WellFormed.{BodyCallFits, Scope, gate_sizes}
 use Rattle.qt_typing.specs.Expressions.{typed_of}
+use Rattle.qt_typing.specs.GateItems.{gate_body_of}
 use Rattle.qt_typing.specs.Statements.{statement_typing}
 use Rattle.qt_typing.specs.declared.state.Around.{Around}
 use Rattle.qt_typing.specs.declared.state.State.{State}
 use Rattle.qt_typing.specs.declared.names.Names.{Names}
 use Rattle.qt_typing.specs.declared.operand.Operand.{Operand}
+use Rattle.qt_typing_laws.specs.Bodies.{SeesGates}
 use Rattle.qt_typing_laws.specs.Fits.{NamesFit, OperandFits}
 use Rattle.qt_typing_laws.specs.Seen.{IsSeen, StatementFits}
 
@@ -26,3 +31,9 @@ abbrev pub StatementsAreWellFormed : Type 0
 StatementsAreWellFormed =
     (scope : Scope) (statement : Statement) (around : Around) (old new : State) (typed : Option TypedStatement) → IsSeen scope old
     → statement_typing statement around old ≡ Ok (typed, new) → StatementFits scope typed × IsSeen scope new
+
+-- each call in the body of a gate has as many qubits as its gate and its controls, all different and of the body, and is of a gate before
+abbrev pub GateBodiesAreWellFormed : Type 0
+GateBodiesAreWellFormed =
+    (gate : GateItem) (old new : State) (body : GateBody) → SeesGates old → gate_body_of gate old ≡ Ok (body, new)
+    → All (BodyCallFits (gate_sizes old.gates) body.qubits) body.calls

@@ -1,3 +1,4 @@
 pub mod Fits
 pub mod Seen
+pub mod Bodies
 pub mod Laws

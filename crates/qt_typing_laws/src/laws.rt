@@ -1,6 +1,6 @@
 //! The laws. The functions do nothing: what they promise is the law.
 
-ghost use Rattle.qt_typing_laws.specs.Laws.{ExpressionsAreTyped, StatementsAreWellFormed};
+ghost use Rattle.qt_typing_laws.specs.Laws.{ExpressionsAreTyped, GateBodiesAreWellFormed, StatementsAreWellFormed};
 
 /// Whatever an expression is typed as fits the frame, where the names in scope do, and has the type that is told of it.
 pub fn expressions()
@@ -11,4 +11,10 @@ pub fn expressions()
 /// statement sees is sound.
 pub fn statements()
     ensures { StatementsAreWellFormed }
+{}
+
+/// Where the names that the body of a gate sees stand for no qubits and for gates before it, each call in the body names as many qubits of
+/// the body as its gate and its controls have, all different.
+pub fn gates()
+    ensures { GateBodiesAreWellFormed }
 {}
