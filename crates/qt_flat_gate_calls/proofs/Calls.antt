@@ -27,6 +27,7 @@ use Rattle.qt_instructions.specs.declared.parts.Parts.{Parts}
 use Rattle.qt_code.specs.Cells.{Cells, named_by, qubit_of, qubits_of}
 use Rattle.qt_code.specs.Tail.{tail}
 use Rattle.qt_primitives.specs.declared.unit.Argument.{Argument}
+use Rattle.qt_primitives.specs.declared.unit.UnitPrimitive.{UnitPrimitive}
 use Rattle.qt_modify.specs.Calls.{arguments_from, behind_arguments}
 use Rattle.qt_modify.specs.Eighths.{first_wrong}
 use Rattle.qt_modify.specs.Expansions.{Expanded}
@@ -41,9 +42,9 @@ use Rattle.qt_gate_call_laws.specs.Applying.{after_steps, primitives_run}
 use Rattle.qt_gate_call_laws.specs.Seen.{LookAlike}
 use Rattle.qt_gate_call_laws.proofs.Leaves.{alike, alike_back, alike_then, on_then, then_alike}
 use Rattle.qt_gate_call_laws.proofs.Multiplied.{calls_are_expansions}
-use Rattle.qt_flat_code.specs.GateCalls.{arguments_code, arguments_length, behind_qubits, call_expanded, call_references, gate_call_length, primitives_code, qubits_code, qubits_length, steps_code, test_code}
+use Rattle.qt_flat_code.specs.GateCalls.{arguments_code, arguments_length, behind_qubits, call_expanded, call_references, gate_call_code, gate_call_length, primitives_code, qubits_code, qubits_length, steps_code, test_code}
 use Rattle.qt_flat_expressions.specs.Lands.{StandsAt}
-use Rattle.qt_flat_expressions.proofs.Lengths.{Long}
+use Rattle.qt_flat_expressions.proofs.Lengths.{Long, joined}
 use Rattle.qt_flat_expressions.proofs.Standing.{stands_behind, stands_first}
 use Rattle.qt_flat_gate_calls.specs.Landing.{GoesOn, IsWhole}
 use Rattle.qt_flat_gate_calls.specs.Laws.{GateCallsLand}
@@ -58,6 +59,20 @@ use Rattle.qt_flat_gate_calls.proofs.Steps.{HoldUnits, steps_get}
 steps_long : (next : ℕ) (steps : List AngleStep) → Long (steps_code next steps) (length steps)
 steps_long next [] = record { long = refl }
 steps_long next (s ∷ steps) = let h = steps_long (suc next) steps in record { long = omega (arith, h.long) }
+
+primitives_long : (us : List UnitPrimitive) → Long (primitives_code us) (length us)
+primitives_long [] = record { long = refl }
+primitives_long (u ∷ us) = let h = primitives_long us in record { long = omega (arith, h.long) }
+
+pub call_long : (site : Site) (used : GateUse) (operands : List TypedQubit) (at : ℕ)
+    → Long (gate_call_code site used operands at) (gate_call_length site used operands)
+call_long site used operands at =
+    let cell = behind_arguments 0 used.arguments in
+    let made = call_expanded site used operands in
+    joined _ _ _ _ (arguments_long used.arguments site.base 0 at)
+    (joined _ _ _ _ (qubits_long operands site cell (at + arguments_length used.arguments))
+    (joined (test_code (call_references site used operands)) _ (length (test_code (call_references site used operands))) _ (record { long = refl })
+    (joined _ _ _ _ (steps_long (behind_qubits operands cell) made.steps.steps) (primitives_long made.primitives))))
 
 -- ---- what follows the product
 

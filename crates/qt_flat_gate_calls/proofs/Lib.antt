@@ -5,3 +5,6 @@ pub mod Qubits
 pub mod Steps
 pub mod Primitives
 pub mod Calls
+pub mod Following
+pub mod Broadcasts
+pub mod Wherever

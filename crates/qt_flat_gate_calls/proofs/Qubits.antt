@@ -40,7 +40,7 @@ use Rattle.qt_flat_gate_calls.proofs.Arriving.{Gets, InCell, gets_here, gets_oth
 
 -- ---- how long the code is
 
-qubit_long : (q : TypedQubit) (site : Site) (cell at : ℕ) → Long (qubit_code q site cell at) (qubit_length q)
+pub qubit_long : (q : TypedQubit) (site : Site) (cell at : ℕ) → Long (qubit_code q site cell at) (qubit_length q)
 qubit_long (qubit.Fixed q) site cell at = record { long = refl }
 qubit_long (qubit.Slot slot) site cell at = record { long = refl }
 qubit_long (qubit.Indexed register index) site cell at =
@@ -99,7 +99,7 @@ module _ (code : Parts) (place : Place) (p : Point) (scope : Scope) (site : Site
   -- ---- one qubit
 
   -- its reference names the number, and is tested as it
-  abbrev NamedIn : TypedQubit → ℕ → ℕ → Cells → Type 0
+  abbrev pub NamedIn : TypedQubit → ℕ → ℕ → Cells → Type 0
   NamedIn q cell number new =
       (named_by (reference_in q site cell) new ≡ number) × (qubit_of code.qubits (reference_in q site cell) new ≡ qubit_tested site q number)
 
@@ -120,7 +120,7 @@ module _ (code : Parts) (place : Place) (p : Point) (scope : Scope) (site : Site
   indexed_tested x y e l =
       ap (λ z. if nat_lt z code.qubits then Ok z else Err Index) e ∙ ap (λ b. if b then Ok x else Err Index) (lt-ltb x code.qubits l)
 
-  qubit_gets : (q : TypedQubit) → IndexFits slots q → QubitFits scope q → (cell at to : ℕ) (cells : Cells)
+  pub qubit_gets : (q : TypedQubit) → IndexFits slots q → QubitFits scope q → (cell at to : ℕ) (cells : Cells)
       → StandsAt code place at (qubit_code q site cell at) → at + qubit_length q ≡ to
       → Gets code place p ℕ at cells to cell (NamedIn q cell) (number_named site q p.store)
   qubit_gets (qubit.Fixed q) fits within cell at to cells h t =

@@ -1,4 +1,4 @@
--- Which gate calls fit the site that they stand at, and a frame of so many slots (OpenQASM 3.0 live specification, "Gates", applying gates,
+-- Which gate calls and broadcasts fit the site that they stand at, and a frame of so many slots (OpenQASM 3.0 live specification, "Gates", applying gates,
 -- and "Types and Casting"; Cross et al. 2022). A call has as many qubits as its gate and its controls, each of them one of the program's;
 -- its arguments are phases, and its indexes fit the frame; no fixed angle of its primitives is anything but a multiple of π/4; and where all
 -- of its qubits are known before the run, they differ. The check of a program lets no other through.
@@ -8,11 +8,13 @@ use Rattle.qt_typed.specs.Types.{type_of}
 use Rattle.qt_typed.specs.declared.call.GateUse.{GateUse}
 use Rattle.qt_typed.specs.declared.call.TypedQubit.{TypedQubit}
 use Rattle.qt_typed.specs.declared.call.TypedQubit.TheVariants as qubit
+use Rattle.qt_typed.specs.declared.call.TypedQubits.{TypedQubits}
+use Rattle.qt_typed.specs.declared.call.TypedQubits.TheVariants as qubits
 use Rattle.qt_typed.specs.declared.expression.TypedPhase.{TypedPhase, end_of-TypedPhase, more_of-TypedPhase}
 use Rattle.qt_typed.specs.declared.expression.TypedPhase.TheVariants.{Fixed, Angle, Neg', Add', Sub', Times', Scaled', Over'}
-use Rattle.qt_meaning.specs.Applying.{some_twice}
+use Rattle.qt_meaning.specs.Applying.{operands_at, some_twice}
 use Rattle.qt_meaning.specs.Places.{Site}
-use Rattle.qt_meaning.specs.WellFormed.{GatesFit, QubitFits, Scope, UseFits}
+use Rattle.qt_meaning.specs.WellFormed.{GatesFit, OperandFits, QubitFits, Scope, UseFits}
 use Rattle.qt_instructions.specs.declared.reference.QubitRef.{QubitRef}
 use Rattle.qt_code.specs.Cells.{named_by, no_cells}
 use Rattle.qt_code.specs.Ranges.{is_angle}
@@ -74,3 +76,22 @@ pub record GateCallFits (scope : Scope) (site : Site) (slots : ℕ) (used : Gate
   pub indexes : IndexesFit slots operands
   pub accepted : call_refusal site used operands ≡ None
   pub differ : FixedDiffer (call_references site used operands)
+
+-- ---- broadcasts, at so many places
+
+abbrev pub OperandIndexFits : ℕ → TypedQubits → Type 0
+OperandIndexFits slots (qubits.Single q) = IndexFits slots q
+OperandIndexFits slots (qubits.Register register) = Unit {0}
+
+abbrev pub OperandIndexesFit : ℕ → List TypedQubits → Type 0
+OperandIndexesFit slots [] = Unit {0}
+OperandIndexesFit slots (qs ∷ rest) = OperandIndexFits slots qs × OperandIndexesFit slots rest
+
+pub record BroadcastFits (scope : Scope) (site : Site) (slots : ℕ) (used : GateUse) (operands : List TypedQubits) (size : ℕ) : Type 0 where
+  pub gates : GatesFit scope.gates
+  pub called : UseFits scope (length operands) used
+  pub qubits : All (OperandFits scope size) operands
+  pub arguments : PhasesFit slots used.arguments
+  pub indexes : OperandIndexesFit slots operands
+  pub accepted : (place : ℕ) → place < size → call_refusal site used (operands_at place operands) ≡ None
+  pub differ : (place : ℕ) → place < size → FixedDiffer (call_references site used (operands_at place operands))
