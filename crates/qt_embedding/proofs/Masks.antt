@@ -22,9 +22,9 @@ holds [] x = true
 holds (c ∷ cs) x = agrees c.value (at c.qubit x) && holds cs x
 
 -- what the masks ask of the bit of a qubit
-record Fine (ones off r : ℕ) (b : Bool) : Type 0 where
-  set : 0 < bit_at ones r → b ≡ true
-  unset : 0 < bit_at off r → b ≡ false
+pub record Fine (ones off r : ℕ) (b : Bool) : Type 0 where
+  pub set : 0 < bit_at ones r → b ≡ true
+  pub unset : 0 < bit_at off r → b ≡ false
 
 asked_true : (t : Bool) (q : ℕ) (b : Bool) (cs : List Control) (x : Bits) → holds (asked_for t q b cs) x ≡ true → (holds cs x ≡ true) × (t ≡ true → agrees b (at q x) ≡ true)
 asked_true true q b cs x e = (and_right (agrees b (at q x)) (holds cs x) e, λ f. and_left (agrees b (at q x)) (holds cs x) e)
@@ -49,14 +49,14 @@ fine_from : (m q ones off : ℕ) (x : Bits) (r : ℕ) → q ≤ r → r < q + su
 fine_from m q ones off x r h k f g = elim (here_or_later q r h) [ inl e ↦ subst (λ (s : ℕ). Fine ones off s (at s x)) e f | inr l ↦ g r l (omega arith) ]
 
 -- where the controls hold, each bit is as the masks ask
-holds_fine : (m q ones off : ℕ) (x : Bits) → holds (controls_from q m ones off) x ≡ true → (r : ℕ) → q ≤ r → r < q + m → Fine ones off r (at r x)
+pub holds_fine : (m q ones off : ℕ) (x : Bits) → holds (controls_from q m ones off) x ≡ true → (r : ℕ) → q ≤ r → r < q + m → Fine ones off r (at r x)
 holds_fine zero q ones off x e r h k = absurd (omega arith)
 holds_fine (suc m) q ones off x e r h k =
     let a = asked_true (is_one (bit_at ones q)) q true (asked_for (is_one (bit_at off q)) q false (controls_from (suc q) m ones off)) x e in
     let b = asked_true (is_one (bit_at off q)) q false (controls_from (suc q) m ones off) x a.0 in
     fine_from m q ones off x r h k (record { set = λ p. agrees_set (at q x) (a.1 (is_one_true (bit_at ones q) p)); unset = λ p. agrees_unset (at q x) (b.1 (is_one_true (bit_at off q) p)) }) (holds_fine m (suc q) ones off x b.0)
 
-fine_holds : (m q ones off : ℕ) (x : Bits) → ((r : ℕ) → q ≤ r → r < q + m → Fine ones off r (at r x)) → holds (controls_from q m ones off) x ≡ true
+pub fine_holds : (m q ones off : ℕ) (x : Bits) → ((r : ℕ) → q ≤ r → r < q + m → Fine ones off r (at r x)) → holds (controls_from q m ones off) x ≡ true
 fine_holds zero q ones off x h = refl
 fine_holds (suc m) q ones off x h =
     let f : Fine ones off q (at q x) = h q (omega arith) (omega arith) in
