@@ -1,0 +1,3 @@
+mod StepForms
+mod SlotForms
+mod TargetForms

@@ -1,0 +1,8 @@
+use Rattle.std.proofs.Common.{◌<◌, arith}
+use Rattle.qt_emit_storing.proofs.SlotForms.{copy_more}
+use Rattle.qt_emit_storing.proofs.slots.copies.Goals as goal
+
+pub slots-preserved : goal.slots-preserved
+slots-preserved c = λ all t.
+    let left : 0 < c.slots.left = omega (arith, c.slots-test.true) in
+    c.slots.invariant all (copy_more c.slots.to c.args.cell c.in_ok-to.to c.slots.left _ _ _ left c.in_ok-to.ensures c.in_ok-put.ensures t)

@@ -1,0 +1,10 @@
+use Rattle.std.proofs.Common.{[], ◌∷◌, ap}
+use Rattle.qt_instructions.specs.declared.instruction.Instr.TheVariants as instr
+use Rattle.qt_emit_expressions.proofs.Adding.{becomes, chain}
+use Rattle.qt_emit_storing.proofs.steps.counted.Goals as goal
+
+pub returns : goal.returns
+returns c =
+    rw (← c.on_places.ensures, ← c.on_places-2.ensures)
+    (chain _ _ _ _ _ (becomes _ _ _ _ (ap (λ n. instr.Load c.args.other n ∷ []) c.from.ensures) c.in_ok-put.ensures)
+    (chain _ _ _ _ _ c.in_ok-put-2.ensures (chain _ _ _ _ _ c.in_ok-put-3.ensures c.in_ok-put-4.ensures)))

@@ -1,0 +1,2 @@
+pub mod BitsIn
+pub mod Writes
