@@ -13,3 +13,5 @@ pub mod Calls
 pub mod Keeping
 pub mod Statements
 pub mod GateItems
+pub mod Leaving
+pub mod ProgramGates

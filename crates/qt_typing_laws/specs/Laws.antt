@@ -1,16 +1,20 @@
 -- What the typing gives fits (OpenQASM 3.0 live specification, "Types and Casting" and "Classical instructions"; Cross et al. 2022).
-use Rattle.std.specs.Prelude.{◌≡◌, ℕ, Option, Ok}
+use Rattle.std.specs.Prelude.{◌≡◌, ℕ, List, Option, Ok}
 use Rattle.qt_const_rules.specs.declared.modes.Mode.{Mode}
 use Rattle.qt_tree.specs.declared.expression.Expr.{Expr}
 use Rattle.qt_tree.specs.declared.place.Place.{Place}
 use Rattle.std.specs.List.{All}
 use Rattle.qt_gate_calls.specs.declared.body.GateBody.{GateBody}
+use Rattle.qt_tree.specs.declared.label.Setting.{Setting}
 use Rattle.qt_tree.specs.declared.program.GateItem.{GateItem}
+use Rattle.qt_tree.specs.declared.program.Program.{Program}
 use Rattle.qt_tree.specs.declared.statement.Statement.{Statement}
+use Rattle.qt_typed.specs.declared.program.Typed.{Typed}
 use Rattle.qt_typed.specs.declared.statement.TypedStatement.{TypedStatement}
-use Rattle.qt_meaning.specs.WellFormed.{BodyCallFits, Scope, gate_sizes}
+use Rattle.qt_meaning.specs.WellFormed.{BodyCallFits, GatesFit, Scope, gate_sizes}
 use Rattle.qt_typing.specs.Expressions.{typed_of}
 use Rattle.qt_typing.specs.GateItems.{gate_body_of}
+use Rattle.qt_typing.specs.Programs.{typing_of}
 use Rattle.qt_typing.specs.Statements.{statement_typing}
 use Rattle.qt_typing.specs.declared.state.Around.{Around}
 use Rattle.qt_typing.specs.declared.state.State.{State}
@@ -37,3 +41,8 @@ abbrev pub GateBodiesAreWellFormed : Type 0
 GateBodiesAreWellFormed =
     (gate : GateItem) (old new : State) (body : GateBody) → SeesGates old → gate_body_of gate old ≡ Ok (body, new)
     → All (BodyCallFits (gate_sizes old.gates) body.qubits) body.calls
+
+-- the gates of a program that has a typing are well formed
+abbrev pub ProgramGatesAreWellFormed : Type 0
+ProgramGatesAreWellFormed =
+    (settings : List Setting) (program : Program) (typed : Typed) → typing_of settings program ≡ Ok typed → GatesFit typed.gates

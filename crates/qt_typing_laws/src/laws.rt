@@ -1,6 +1,6 @@
 //! The laws. The functions do nothing: what they promise is the law.
 
-ghost use Rattle.qt_typing_laws.specs.Laws.{ExpressionsAreTyped, GateBodiesAreWellFormed, StatementsAreWellFormed};
+ghost use Rattle.qt_typing_laws.specs.Laws.{ExpressionsAreTyped, GateBodiesAreWellFormed, ProgramGatesAreWellFormed, StatementsAreWellFormed};
 
 /// Whatever an expression is typed as fits the frame, where the names in scope do, and has the type that is told of it.
 pub fn expressions()
@@ -14,7 +14,8 @@ pub fn statements()
 {}
 
 /// Where the names that the body of a gate sees stand for no qubits and for gates before it, each call in the body names as many qubits of
-/// the body as its gate and its controls have, all different.
+/// the body as its gate and its controls have, all different. In a program that has a typing this holds of all gates.
 pub fn gates()
-    ensures { GateBodiesAreWellFormed }
+    ensures bodies { GateBodiesAreWellFormed }
+    ensures programs { ProgramGatesAreWellFormed }
 {}
