@@ -10,7 +10,7 @@ ghost use Rattle.qt_typing.specs.Declarations.{constant_as, constant_named, cons
 use crate::names::{declare, declare_in_both};
 use crate::sizes::typed_name;
 use qt_check_expressions::constants::constant_at;
-use qt_check_expressions::convert::rescales;
+use qt_check_rules::conversions::rescales;
 use qt_const::casts;
 use qt_const::modes::Mode;
 use qt_const_rules::consts::Known;

@@ -5,10 +5,11 @@ ghost use Rattle.qt_value.specs.declared.types.ValueType.TheVariants as kind;
 ghost use Rattle.qt_typed.specs.declared.expression.TypedExpr.TheVariants as typed;
 ghost use Rattle.qt_typing.specs.declared.operand.Operand.TheVariants as operand;
 ghost use Rattle.qt_typing.specs.Checked.{Gives, and_then};
-ghost use Rattle.qt_typing.specs.Conversions.{as_type, converts, has_row, is_same, rescales, truth_at};
+ghost use Rattle.qt_typing.specs.Conversions.{as_type, truth_at};
 ghost use Rattle.qt_typing.specs.Conversions.{phase_as, phase_at, value_form, wanted, zero_as};
 
 use crate::constants::{answer_at, is_zero_at, phase_at};
+pub use qt_check_rules::conversions::{converts, is_same, rescales};
 use qt_const::casts::cast_to;
 use qt_const::modes::Mode;
 use qt_outside::faults::OutOfMemory;
@@ -25,59 +26,6 @@ use qt_value::types::ValueType;
 use qt_value::value::Value;
 use sqlite_items::Boxed;
 use std::alloc::Global;
-
-/// Whether two types are one.
-#[tactic(auto, unfolding(qt_typing::specs::Conversions::is_same))]
-pub fn is_same(from: ValueType, to: ValueType) -> bool
-    ensures { result ≡ is_same from to }
-{
-    match (from, to) {
-        (ValueType::Bool, ValueType::Bool) | (ValueType::Phase, ValueType::Phase) => true,
-        (ValueType::Bit(n), ValueType::Bit(m))
-        | (ValueType::Int(n), ValueType::Int(m))
-        | (ValueType::Uint(n), ValueType::Uint(m))
-        | (ValueType::Angle(n), ValueType::Angle(m)) => n == m,
-        _ => false,
-    }
-}
-
-/// Whether a conversion goes from an angle to one of another width.
-pub fn rescales(from: ValueType, to: ValueType) -> bool
-    ensures { result ≡ rescales from to }
-{
-    match (from, to) {
-        (ValueType::Angle(n), ValueType::Angle(m)) => n != m,
-        _ => false,
-    }
-}
-
-/// Whether the table of conversions has a row for two types.
-fn has_row(from: ValueType, to: ValueType) -> bool
-    ensures { result ≡ has_row from to }
-{
-    if !to.has_size() {
-        return false;
-    }
-    match (from, to) {
-        (ValueType::Bit(n), ValueType::Bit(m))
-        | (ValueType::Angle(n), ValueType::Bit(m))
-        | (ValueType::Bit(n), ValueType::Angle(m)) => n == m,
-        (ValueType::Angle(_), ValueType::Angle(_)) => true,
-        (_, ValueType::Angle(_)) => false,
-        _ => from.is_whole(),
-    }
-}
-
-/// Whether a value of a type becomes one of another in that way.
-#[tactic(auto, unfolding(qt_typing::specs::Conversions::converts))]
-pub fn converts(way: Way, from: ValueType, to: ValueType) -> bool
-    ensures { result ≡ converts way from to }
-{
-    match way {
-        Way::Written => has_row(from, to),
-        Way::Unwritten => has_row(from, to) && !rescales(from, to),
-    }
-}
 
 /// A form as a value of another type.
 fn conversion(

@@ -5,13 +5,12 @@ ghost use Rattle.qt_typing.specs.Expressions.{named_constant};
 ghost use Rattle.qt_typing.specs.Statements as spec;
 
 use qt_check_expressions::convert::constant;
-use qt_check_operands::names::unfit;
 use qt_check_operands::variables::storage_of;
-use qt_const_rules::consts::Known;
+use qt_check_rules::names::{named_constant, unfit};
 use qt_names::named::{Named, What};
 use qt_tree::label::Label;
 use qt_tree::place::Place;
-use qt_tree::refusal::{Cause, TextRefusal};
+use qt_tree::refusal::TextRefusal;
 use qt_typed::expression::TypedExpr;
 use qt_typed::statement::TypedSequence;
 use qt_typing::indexes::Storage;
@@ -87,27 +86,6 @@ fn constant_values(
             scalar_bits(alloc, place, value.kind(), constant(alloc, value)?)
         }
         ConstValue::Phase(_) => Err(TextRefusal::E10(place)),
-    }
-}
-
-/// A constant by its value.
-#[tactic(auto, unfolding(qt_typing::specs::Expressions::named_constant))]
-fn named_constant(
-    alloc: Global,
-    names: &Names,
-    place: Place,
-    name: &Label,
-) -> Result<ConstValue, TextRefusal>
-    ensures { Gives (named_constant names.now place name.now) result }
-{
-    match names.consts.known(name.text()) {
-        Some(Known::Constant(constant)) => Ok(*constant),
-        Some(Known::Lengths(lengths)) if lengths.items().len() > 0 => Err(TextRefusal::E10(place)),
-        Some(Known::Lengths(_)) => Err(TextRefusal::E12(place, Cause::Variable)),
-        Some(Known::Other) => Err(TextRefusal::E12(place, Cause::Variable)),
-        Some(Known::Subroutine) => Err(unfit(alloc, place, name)),
-        Some(Known::Hidden) => Err(unfit(alloc, place, name)),
-        None => Err(unfit(alloc, place, name)),
     }
 }
 

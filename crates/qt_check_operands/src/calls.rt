@@ -1,13 +1,10 @@
 //! Calls of the functions of the language.
 
-ghost use Rattle.std.specs.Prelude.{◌≡◌, length};
-ghost use Rattle.qt_tree.specs.declared.refusal.TextRefusal.TheVariants as refusal;
-ghost use Rattle.qt_typing.specs.Checked.{Gives, told};
+ghost use Rattle.qt_typing.specs.Checked.{Gives};
 ghost use Rattle.qt_typing.specs.Expressions as spec;
 ghost use Rattle.qt_value.specs.OpTypes.{result_type};
 
 use qt_check_operators::operators::unary_row;
-use qt_tree::expression::Expr;
 use qt_tree::place::Place;
 use qt_tree::refusal::TextRefusal;
 use qt_typed::expression::TypedExpr;
@@ -16,14 +13,6 @@ use qt_value::operators::{Op, UnaryOp, op_type};
 use qt_value::types::ValueType;
 use sqlite_items::Boxed;
 use std::alloc::Global;
-
-/// The refusal of another number of arguments than is wanted.
-pub(crate) fn arity(place: Place, wanted: u32, arguments: &[Expr]) -> TextRefusal
-    ensures { result ≡ refusal.E14 place wanted (told (length arguments.now)) }
-{
-    let given = u32::try_from(arguments.len()).unwrap_or(u32::MAX);
-    TextRefusal::E14(place, wanted, given)
-}
 
 /// `popcount(of)`
 pub(crate) fn counted(alloc: Global, place: Place, of: Operand) -> Result<Operand, TextRefusal>

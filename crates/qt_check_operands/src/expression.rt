@@ -12,10 +12,9 @@ ghost use Rattle.qt_typing.specs.Operators.{both_true, combined};
 ghost use Rattle.qt_typing.specs.Expressions as spec;
 ghost use Rattle.qt_check_operands.specs.Parts.{index_parts, Reaches};
 
-use crate::calls::{arity, counted, turned};
+use crate::calls::{counted, turned};
 use crate::constants::{constant_operand, fixed_phase};
 use crate::left::IndexesLeft;
-use crate::names::{builtin_at, named_constant, unfit};
 use crate::variables::{element, kind_of, read, scalar, stepped, storage_of};
 use qt_check_expressions::constants::type_at;
 use qt_check_expressions::convert::{constant, wanted};
@@ -23,6 +22,8 @@ use qt_check_expressions::sorts::sort_at;
 use qt_check_indexes::bits::{bit_at, slice_at};
 use qt_check_indexes::single::placed_index;
 use qt_check_operators::operators::{before_operand, both_true, combined};
+use qt_check_rules::counts::arity;
+use qt_check_rules::names::{builtin_at, named_constant, unfit};
 use qt_const::modes::Mode;
 use qt_const::operators::{op_of_infix, op_of_prefix};
 use qt_const_rules::builtins::Builtin;
@@ -155,7 +156,7 @@ fn count_typed(
             let of = typed(alloc, names, mode, place, of)?;
             counted(alloc, place, of)
         }
-        _ => Err(arity(place, 1, arguments)),
+        _ => Err(arity(place, 1, arguments.len() as u64)),
     }
 }
 
@@ -178,7 +179,7 @@ fn turn_typed(
             let by = typed(alloc, names, mode, place, by)?;
             turned(alloc, place, operator, of, by)
         }
-        _ => Err(arity(place, 2, arguments)),
+        _ => Err(arity(place, 2, arguments.len() as u64)),
     }
 }
 
