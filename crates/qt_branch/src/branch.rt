@@ -80,6 +80,18 @@ impl Branch {
         Ok(Branch { at, slots, entries })
     }
 
+    /// The branch of these three parts, which are taken over.
+    pub fn from_parts(at: u32, slots: Vec<u64>, entries: Vec<Omega>) -> Branch
+        requires { AreAmplitudes entries.items }
+        ensures { result ≡ record { at = at; slots = slots.items; entries = entries.items } }
+    {
+        Branch {
+            at,
+            slots: Slots::from_vec(slots),
+            entries: Amplitudes::from_vec(entries),
+        }
+    }
+
     /// The place in the program.
     pub fn at(&self) -> u32
         ensures { result ≡ self.now.at }
