@@ -5,9 +5,11 @@ ghost use Rattle.qt_typing.specs.Checked.{Gives};
 ghost use Rattle.qt_typing.specs.Gates as spec;
 
 use crate::arguments::phases_from;
-use crate::gates::{Gate, count_fits, gate_called, written_arguments};
+use crate::gates::{Gate, gate_called, written_arguments};
 use crate::modifiers::{controls, modifiers_from};
-use crate::operands::{operands_from, singles, size_of_all};
+use crate::operands::{operands_from, singles};
+use qt_check_rules::counts::count_fits;
+use qt_check_rules::operands::size_of_all;
 use qt_gate_calls::body::{Called, GateBodies, GateModifier};
 use qt_outside::faults::OutOfMemory;
 use qt_tree::expression::Expr;

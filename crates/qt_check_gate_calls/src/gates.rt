@@ -2,11 +2,12 @@
 
 ghost use Rattle.std.specs.Prelude.{◌≡◌};
 ghost use Rattle.std.specs.Option.{option_copied};
-ghost use Rattle.qt_typing.specs.Checked.{Gives, told};
+ghost use Rattle.qt_typing.specs.Checked.{Gives};
 ghost use Rattle.qt_typing.specs.Expressions.{or_unfit};
 ghost use Rattle.qt_typing.specs.Gates as spec;
 
-use qt_check_operands::names::unfit;
+pub use qt_check_rules::counts::count_fits;
+use qt_check_rules::names::unfit;
 use qt_gate_calls::body::Called;
 use qt_gates::named::standard;
 use qt_names::named::{Named, Places, What};
@@ -167,22 +168,4 @@ pub fn written_arguments(gate: &CalledGate) -> &[Expr]
         CalledGate::Named { .. } => &[],
         CalledGate::GlobalPhase { angle } => slice::from_ref(angle),
     }
-}
-
-/// A number as it is told.
-fn told(number: u64) -> u32
-    ensures { result ≡ told number }
-{
-    u32::try_from(number).unwrap_or(u32::MAX)
-}
-
-/// That so many are given as are wanted: else E14.
-#[tactic(auto, unfolding(qt_typing::specs::Gates::count_fits))]
-pub fn count_fits(place: Place, wanted: u64, given: u64) -> Result<(), TextRefusal>
-    ensures { Gives (spec.count_fits place wanted given) result }
-{
-    if wanted == given {
-        return Ok(());
-    }
-    Err(TextRefusal::E14(place, told(wanted), told(given)))
 }

@@ -9,9 +9,9 @@ ghost use Rattle.qt_typing.specs.Checked.{Gives, unless};
 ghost use Rattle.qt_typing.specs.Gates as spec;
 ghost use Rattle.qt_typing.specs.Qubits as qubits_spec;
 
-use crate::gates::count_fits;
 use qt_check_qubits::operands::operand_qubits;
 use qt_check_qubits::repeats::{contains, overlaps};
+use qt_check_rules::operands::{same_size, size_of_all};
 use qt_outside::faults::OutOfMemory;
 use qt_registers::fixed::FixedQubit;
 use qt_registers::register::Register;
@@ -154,31 +154,6 @@ fn any_clashes(mut done: &[TypedQubits], of: &TypedQubits) -> bool
         done = rest;
     }
     false
-}
-
-/// The size of the first register, where there is one.
-pub fn size_of_all(mut operands: &[TypedQubits]) -> Option<u64>
-    ensures { result ≡ spec.size_of_all operands.entry.now }
-{
-    while let [operand, rest @ ..] = operands {
-        if let TypedQubits::Register { qubits } = operand {
-            return Some(qubits.size());
-        }
-        operands = rest;
-    }
-    None
-}
-
-/// That a register has the size of the first one: else E14.
-fn same_size(place: Place, size: Option<u64>, of: &TypedQubits) -> Result<(), TextRefusal>
-    ensures { Gives (spec.same_size place size of.now) result }
-{
-    match (size, of) {
-        (Some(wanted), TypedQubits::Register { qubits }) => {
-            count_fits(place, wanted, qubits.size())
-        }
-        _ => Ok(()),
-    }
 }
 
 /// That no qubit of these stands among those before them in one of the calls: else E11 `qubit`.

@@ -10,7 +10,8 @@ use qt_check_expressions::sorts::is_fixed;
 use qt_check_indexes::ranges::range_places;
 use qt_check_indexes::single::{fixed_place, whole_index};
 use qt_check_operands::expression::typed;
-use qt_check_operands::names::unfit;
+use qt_check_rules::counts::told;
+use qt_check_rules::names::unfit;
 use qt_const::modes::Mode;
 use qt_names::named::{Named, Places, What};
 use qt_outside::faults::OutOfMemory;
@@ -235,6 +236,5 @@ pub fn outcomes_fit(place: Place, width: u8, of: &TypedQubits) -> Result<(), Tex
     if u64::from(width) == count {
         return Ok(());
     }
-    let told = u32::try_from(count).unwrap_or(u32::MAX);
-    Err(TextRefusal::E14(place, u32::from(width), told))
+    Err(TextRefusal::E14(place, u32::from(width), told(count)))
 }
