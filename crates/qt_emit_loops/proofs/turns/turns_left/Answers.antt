@@ -1,0 +1,7 @@
+use Rattle.qt_emit_expressions.proofs.Adding.{chain}
+use Rattle.qt_emit_loops.proofs.turns.turns_left.Goals as goal
+
+pub returns : goal.returns
+returns c =
+    rw (← c.in_ok-slot.ensures, ← c.on_counts.ensures)
+    (chain _ _ _ _ _ c.in_ok-put.ensures (chain _ _ _ _ _ c.in_ok-put-2.ensures c.in_ok-put-3.ensures))
