@@ -1,3 +1,4 @@
 pub mod Leading
 pub mod Plain
+pub mod Turning
 pub mod Valid

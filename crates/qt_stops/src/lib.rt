@@ -5,7 +5,7 @@
 //! touched. It ends, since a jump back goes to a Tick, which spends fuel. What `go` answers is said for every state beside the cells and
 //! slots (`IsHalt`): so a gate is applied by its caller, which goes on behind it. Nothing here takes memory.
 //!
-//! The run of a branch to its next choice is the caller.
+//! `proofs/Turning.antt` says how a run comes over a gate, for the caller: the run of a branch to its next choice.
 #![tactic(auto)]
 
 pub mod go;
