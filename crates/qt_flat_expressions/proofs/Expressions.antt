@@ -34,11 +34,11 @@ use Rattle.qt_flat_expressions.proofs.Slices.{slice_comes}
 use Rattle.qt_flat_expressions.proofs.Standing.{stands_behind, stands_first}
 use Rattle.qt_flat_expressions.proofs.Stepping.{get_step, load_step}
 
-then_joined : (v : Evaluated ℕ) (f : ℕ → ℕ) (rest : ℕ → Evaluated ℕ) → and_then (and_then v (λ j. Ok (f j))) rest ≡ and_then v (λ j. rest (f j))
+pub then_joined : (v : Evaluated ℕ) (f : ℕ → ℕ) (rest : ℕ → Evaluated ℕ) → and_then (and_then v (λ j. Ok (f j))) rest ≡ and_then v (λ j. rest (f j))
 then_joined (Ok j) f rest = refl
 then_joined (Err fault) f rest = refl
 
-place_after : (v : Evaluated ℕ) (n : ℕ) → ((j : ℕ) → v ≡ Ok j → j < n) → (before x : ℕ) (lengths : List ℕ)
+pub place_after : (v : Evaluated ℕ) (n : ℕ) → ((j : ℕ) → v ≡ Ok j → j < n) → (before x : ℕ) (lengths : List ℕ)
     → and_then v (λ j. Ok (before * n + j)) ≡ Ok x → left_of x lengths ≤ left_of before (n ∷ lengths)
 place_after (Ok j) n below before x lengths e =
     let same : before * n + j ≡ x = cc in

@@ -92,6 +92,18 @@ product x y h g l =
     ∙ ap (λ z. Ok (residue 64 (pos x *ℤ z))) (read_natural y g)
     ∙ ap Ok (natural (x * y) l)
 
+-- 0 times a number of places that may be any
+pub none_of : (y : ℕ) → operated op.Mul place_kind place_kind 0 y ≡ Ok 0
+none_of y =
+    mul_is 0 y
+    ∙ ap (λ z. Ok (residue 64 (z *ℤ read y))) (read_natural 0 (omega arith))
+    ∙ ap (λ z. Ok (residue 64 z)) (zero_times (read y))
+    ∙ ap Ok (natural 0 (omega arith))
+  where
+    zero_times : (z : ℤ) → pos 0 *ℤ z ≡ pos 0
+    zero_times (pos n) = omega (arith, ints)
+    zero_times (negsuc n) = omega (arith, ints)
+
 pub rest : (x b : ℕ) → x < 2 ^ 63 → suc b < 2 ^ 63 → operated op.Rem place_kind place_kind x (suc b) ≡ Ok (x % suc b)
 rest x b h g =
     let below : x % suc b < suc b = mod-lt x (omega arith) in

@@ -80,7 +80,7 @@ copied_sum read x i (suc count) y h =
     add_up : (y t s f l m : ℕ) → s ≡ f + l → f ≡ t → l ≡ m → y + t + m ≡ y + s
     add_up y t s f l m e g k = omega arith
 
-slice_copied : (x start step count : ℕ) → copied (every start step) (λ j. j) x 0 count 0 ≡ slice_of x start step count
+pub slice_copied : (x start step count : ℕ) → copied (every start step) (λ j. j) x 0 count 0 ≡ slice_of x start step count
 unfolding slice_of
 slice_copied x start step count =
     let none : 0 < 2 ^ 0 = omega (arith, pow-zero 2) in
