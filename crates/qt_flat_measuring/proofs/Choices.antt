@@ -4,13 +4,17 @@ use Rattle.std.proofs.lemmas.Bool.{lt-ltb}
 use Rattle.std.specs.List.{flat_map}
 use Rattle.qt_tree.specs.declared.place.Place.{Place}
 use Rattle.qt_registers.specs.declared.fixed.FixedQubit.{FixedQubit}
+use Rattle.qt_value.specs.Types.{width_of}
+use Rattle.qt_typed.specs.declared.expression.TypedStep.{TypedStep}
+use Rattle.qt_typed.specs.declared.expression.TypedTarget.{TypedTarget}
 use Rattle.qt_typed.specs.declared.call.TypedQubit.{TypedQubit}
 use Rattle.qt_typed.specs.declared.call.TypedQubit.TheVariants as qubit
 use Rattle.qt_typed.specs.declared.call.TypedQubits.{TypedQubits}
 use Rattle.qt_typed.specs.declared.call.TypedQubits.TheVariants as qubits
 use Rattle.qt_meaning.specs.Measuring.{all_measured, all_reset, kept, measured, measurement, reset, resetting}
-use Rattle.qt_meaning.specs.Places.{Location, Site, Whole, all_tested, fixed_number, number_named, qubit_tested, register_named, register_tested}
+use Rattle.qt_meaning.specs.Places.{Location, Site, Whole, kind_of, location_in, all_tested, fixed_number, number_named, qubit_tested, register_named, register_tested}
 use Rattle.qt_meaning.specs.Points.{Broken, Continued, Dry, Ended, Faulted, Leaf, On, Point, Returned, Run, Signal, go_on, leaf, then_do, with_result}
+use Rattle.qt_meaning.specs.Statements.{optional_target}
 use Rattle.qt_meaning.specs.Values.{Evaluated, Index, and_then}
 use Rattle.qt_meaning.specs.WellFormed.{Scope}
 use Rattle.qt_instructions.specs.declared.reference.QubitRef.TheVariants as reference
@@ -22,8 +26,10 @@ use Rattle.qt_instructions.specs.declared.parts.Parts.{Parts}
 use Rattle.qt_code.specs.Cells.{Cells, place_of_store, qubit_of}
 use Rattle.qt_code.specs.Tail.{choices_before, stored_at, tail}
 use Rattle.qt_flat_code.specs.Lengths.{choosing_length, qubits_length}
+use Rattle.qt_flat_code.specs.Bits.{AllBits, Bits, bits_after, first_bits_of}
 use Rattle.qt_flat_code.specs.GateCalls as calls
-use Rattle.qt_flat_code.specs.Measuring.{measures, outcome_of, qubit_code, qubit_named, reset_code}
+use Rattle.qt_flat_code.specs.Storing.{steps_code}
+use Rattle.qt_flat_code.specs.Measuring.{constant_slot, measure_code, measure_slot_code, measures, outcome_in, outcome_of, qubit_code, qubit_named, qubits_code, qubits_named, reset_code}
 use Rattle.qt_flat_expressions.specs.Lands.{StandsAt}
 use Rattle.qt_flat_expressions.proofs.Standing.{stands_behind, stands_first}
 use Rattle.qt_gate_call_laws.specs.Seen.{LookAlike}
@@ -32,7 +38,7 @@ use Rattle.qt_flat_gate_calls.specs.Landing.{GoesOn, IsWhole, RunLands}
 use Rattle.qt_flat_gate_calls.proofs.Arriving.{gets_followed}
 use Rattle.qt_flat_gate_calls.proofs.Following.{lands_here, lands_then}
 use Rattle.qt_flat_gate_calls.proofs.Qubits.{NamedIn, qubit_gets, qubit_long}
-use Rattle.qt_flat_measuring.specs.Laws.{ChoicesFit, MeasurementsLand, ResetsLand, SlotMeasurementsLand}
+use Rattle.qt_flat_measuring.specs.Laws.{ChoicesFit, IsWholeTarget, MeasurementsLand, ResetsLand, SlotMeasurementsLand, TargetMeasurementsLand}
 use Rattle.qt_flat_measuring.proofs.Outcomes.{measure_does, reset_does}
 use Rattle.qt_flat_measuring.proofs.Ranks.{IsFree, expression_free, free_joined, rank_after, rank_behind}
 
@@ -245,4 +251,53 @@ slot_measurements_land code place scope site slots (qubits.Single q) slot at fit
 slot_measurements_land code place scope site slots (qubits.Register register) slot at fits l h = record {
   by = (measures_land code place site (store.Bit slot) (kept (Some (Whole slot))) (length register) (in_slot slot (length register) l) register 0 at
       (at + choosing_length (qubits.Register register) 0) site.choices (omega arith) fits.before h (omega arith)).by;
+}
+
+-- ---- targets
+
+-- where the whole target is, as a location
+whole_location : (steps : List TypedStep) (width slot base : ℕ) (store : List ℕ) → steps ≡ [] → location_in steps width slot base store ≡ Ok (Whole slot)
+whole_location [] width slot base store e = refl
+whole_location (s ∷ steps) width slot base store e = absurd (cc)
+
+located : (target : TypedTarget) (base : ℕ) (store : List ℕ) → IsWholeTarget target base
+    → optional_target (Some target) base store ≡ Ok (Some (Whole (constant_slot target.variable base)))
+located target base store w =
+    let slot = constant_slot target.variable base in
+    let width = width_of (kind_of target.variable) in
+    ap (λ v. and_then (and_then v (λ x. location_in target.steps width x base store)) (λ l. Ok (Some l))) (w.slot store)
+    ∙ ap (λ v. and_then v (λ l. Ok (Some l))) (whole_location target.steps width slot base store w.steps)
+
+-- the code is that of a slot
+whole_bits : (steps : List TypedStep) (width : ℕ) → steps ≡ [] → bits_after steps (first_bits_of steps width) ≡ AllBits
+whole_bits [] width e = refl
+whole_bits (s ∷ steps) width e = absurd (cc)
+
+no_steps : (steps : List TypedStep) (bits : Bits) (base cell at : ℕ) → steps ≡ [] → steps_code steps bits base cell at ≡ []
+no_steps [] bits base cell at e = refl
+no_steps (s ∷ steps) bits base cell at e = absurd (cc)
+
+target_stands : (code : Parts) (place : Place) (site : Site) (qs : TypedQubits) (target : TypedTarget) (at : ℕ) → IsWholeTarget target site.base
+    → StandsAt code place at (measure_code qs (Some target) site at)
+    → StandsAt code place at (measure_slot_code qs (constant_slot target.variable site.base) site at)
+target_stands code place site qs target at w h =
+    let slot = constant_slot target.variable site.base in
+    let width = width_of (kind_of target.variable) in
+    let mid = at + qubits_length qs in
+    let refs = qubits_named qs site 0 in
+    let first = qubits_code qs site 0 at in
+    let a = subst (λ c. StandsAt code place at (first ++ (c ++ measures (outcome_of (Some target) site.base) refs 0)))
+    (no_steps target.steps (first_bits_of target.steps width) site.base 1 mid w.steps) h in
+    subst (λ b. StandsAt code place at (first ++ measures (outcome_in b slot) refs 0)) (whole_bits target.steps width w.steps) a
+
+pub target_measurements_land : TargetMeasurementsLand
+target_measurements_land code place scope site slots qs target at fits l w h = record {
+  by = λ next cells p whole goes.
+      let slot = constant_slot target.variable site.base in
+      let e : measurement site place qs (λ store. Ok (Some (Whole slot))) p ≡ measurement site place qs (optional_target (Some target) site.base) p =
+      ap (λ v. with_result (register_named site qs p.store) place (λ ns. with_result v place (λ location. with_result (register_tested site qs ns) place
+      (λ ms. all_measured place site.choices ms 0 (kept location)))) p) (sym (located target site.base p.store w)) in
+      alike_then
+      ((slot_measurements_land code place scope site slots qs slot at fits l (target_stands code place site qs target at w h)).by next cells p whole goes)
+      (alike _ _ (ap (flat_map (λ l. go_on next l.signal l.point)) e));
 }
