@@ -3,6 +3,7 @@ use Rattle.std.specs.Prelude.{ℕ, Bool, []}
 use Rattle.qt_gate_calls.specs.declared.body.GateBody.{GateBody}
 use Rattle.qt_tree.specs.declared.program.GateItem.{GateItem}
 use Rattle.qt_typing.specs.Environment.{Typing, ◌>>=◌, pure, seen, leave}
+use Rattle.qt_typing.specs.Declarations.{new_name}
 use Rattle.qt_typing.specs.GateItems.{body_from, body_with, declare_angles, declare_gate, declare_wires, gate_body_of, parameters_of}
 
 abbrev pub body_and_end : Bool → ℕ → GateItem → Typing GateBody
@@ -18,3 +19,7 @@ angles_and_body included known gate =
 
 abbrev pub body_and_name : GateItem → Typing (Unit {0})
 body_and_name gate = gate_body_of gate >>= declare_gate gate.place gate.name
+
+-- a gate judged against what stands before it: E9 of its name, and then its body. It isn't declared
+abbrev pub gate_checked : GateItem → Typing GateBody
+gate_checked gate = seen (new_name gate.place gate.name) >>= (λ _. gate_body_of gate)

@@ -164,6 +164,21 @@ fn declare_gate(
     declare_in_both(alloc, state, place, name, named, Known::Hidden)
 }
 
+/// The body of a gate that is judged against what stands before it, without declaring it: `state` has the names before it, those that the
+/// bodies of gates see, and whether the standard gates are included. The first refusal is E9 where the gate's name stands in the global
+/// scope already or a parameter or qubit has the name of another, or in a call of its body E8, E10, E11, E12 or E14; a program without
+/// such a gate has no typing. Behind a refusal nothing is said of the state. OpenQASM 3.0, "Gates", hierarchically defined unitary gates.
+pub fn check_gate(
+    alloc: Global,
+    state: &mut State,
+    gate: &GateItem,
+) -> Result<GateBody, TextRefusal>
+    ensures { Makes (steps.gate_checked gate.now state.old) result state.new }
+{
+    new_name(alloc, &state.names, gate.place, gate.name.text())?;
+    gate_body_of(alloc, state, gate)
+}
+
 /// The body of a gate, and then its name.
 fn body_and_name(alloc: Global, state: &mut State, gate: &GateItem) -> Result<(), TextRefusal>
     ensures { Makes (steps.body_and_name gate.now state.old) result state.new }

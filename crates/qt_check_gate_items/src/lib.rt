@@ -2,7 +2,8 @@
 //!
 //! Each function here is one definition of `qt_typing`, of the same name: it answers what that finds, or its refusal, or want of memory.
 //! [`angles`] reckons the arguments of calls in a body as angles of the gate's parameters, [`operators`] counts the operators in them, and
-//! [`bodies`] checks the calls. [`items::gate_item`] is the whole, and says what the names that the program sees become.
+//! [`bodies`] checks the calls. [`items::check_gate`] judges a gate and answers its body; [`items::gate_item`] declares it too, and says what
+//! the names that the program sees become.
 //!
 //! `specs/Layers.antt` is an angle by its outermost form, over what its parts are reckoned to. The check of programs calls this crate.
 #![tactic(auto)]
