@@ -1,11 +1,15 @@
 #!/usr/bin/env python3
 """Writes the rows of programs that are checked, and the answers that are wanted.
 
-The answers come from three places: the cases of definitions/cases.json, which were found without this program; a table of programs with
-the answers of the language's rules; and pairs of faults in one statement, where the fault that the rules judge first is the answer."""
+The answers come from four places: the cases of definitions/cases.json, which were found without this program; the examples of
+docs/LANGUAGE.md; a table of programs with the answers of the language's rules; and pairs of faults in one statement, where the
+fault that the rules judge first is the answer (`fault_pairs.py`)."""
 import itertools
 import json
 import pathlib
+import re
+
+import fault_pairs
 
 here = pathlib.Path(__file__).parent
 rows, answers = [], []
@@ -26,6 +30,14 @@ def add(text, wanted, settings=()):
 for case in json.loads((here / "../../definitions/cases.json").read_text()):
     if case["mode"] == "check":
         add(case["text"], case["wanted"], case.get("settings", ()))
+
+# ---- the examples of docs/LANGUAGE.md
+PAGE = (here / "../../docs/LANGUAGE.md").read_text()
+for line in PAGE[PAGE.index("## What a program means") : PAGE.index("## How a program runs")].splitlines():
+    example = re.fullmatch(r"\| `([^`]+)` \| `(ok|E[0-9]+) ([^`]+)` \|", line)
+    # other answers are those of runs, and angles are judged behind the size
+    if example and example[2] != "E13":
+        add(example[1], f"{example[2]} {example[3]}".replace("p.qasm:", "p:"))
 
 # ---- programs with the answers of the rules
 GATES = 'include "stdgates.inc"; '
@@ -53,6 +65,18 @@ for text, wanted in [
     (GATES + "qubit[4294967295] q; x q;", "E15 qubits 4294967295"),
     ("array[uint[8], 1024] z;", "ok qubits 0 slots 1024 size 11"),
     ("array[uint[8], 65536, 65536] z;", "E16 slots 4294967295"),
+    ("bit[64] b; bit[18446744073709551615] c;", "E12 p:1:12 const range"),
+    ("angle[32] a; angle[33] c;", "E12 p:1:14 const range"),
+    ("angle[0] a;", "E12 p:1:1 const range"),
+    ("qubit[4294967296] q;", "E12 p:1:1 const range"),
+    ("array[uint[8], 0] z;", "E12 p:1:1 const range"),
+    ("array[uint[8], 4294967295] z; z[4294967294] = 1;", "E16 slots 4294967295"),
+    ("array[uint[8], 4294967295, 4294967295, 4294967295] z; int n = z[0, 0, 0];", "E16 slots 4294967295"),
+    ("qubit[4294967295] q; qubit[4294967295] r; let a = q ++ q[0];", "E11 p:1:43 form qubit"),
+    ("qubit[4294967295] q; qubit[4294967295] r; let a = q ++ r;", "E12 p:1:43 const range"),
+    (GATES + "qubit[4294967295] q; qubit[4294967295] r; cx q, r;", "E15 qubits 4294967295"),
+    ("def f(int n) { int m; } " + "f(1); " * 512, "ok qubits 0 slots 1024 size 4096"),
+    ("def f(int n) { int m; } " + "f(1); " * 512 + "int n;", "E16 slots 1025"),
     ("array[bool, 1, 1, 1, 1, 1, 1, 1] z;", "ok qubits 0 slots 1 size 20"),
     ("array[bool, 1, 1, 1, 1, 1, 1, 1, 1] z;", "E11 p:1:1 form dimensions"),
     # what bodies see
@@ -84,6 +108,50 @@ add("input int[8] n;", "ok qubits 0 slots 1 size 7", ["n=3"])
 add("input int[8] n;", "E19 n bad", ["n=128"])
 add("input int[8] n;", "E19 m unknown", ["n=3", "m=1"])
 
+# ---- what is seen inside a subroutine and a gate: global constants and gates, inside a subroutine the subroutines before it too
+OUTSIDE = (
+    GATES + "const int k = 1; int v; bit[2] b; input int w; output int o; array[int, 2] z; qubit p; qubit[2] q; let a = q[0:1]; "
+    "gate g t { } def e(int m) -> int { return m; } "
+)
+for head, body, uses in [
+    (
+        "def f(int n, qubit s) { ",
+        "{} }}",
+        [
+            ("n = k;", None), ("g s;", None), ("x s;", None), ("n = e(n);", None), ("n = v;", "v"), ("n = b;", "b"), ("n = w;", "w"), ("n = o;", "o"),
+            ("n = z[0];", "z"), ("v = n;", "v"), ("b[0] = measure s;", "b"), ("reset p;", "p"), ("reset q[0];", "q"), ("reset a;", "a"), ("cx s, a;", "a"),
+            ("n = f(n);", "f"), ("n = later(n);", "later"), ("for int i in b { }", "b"), ("if (v == 1) { }", "v"), ("return v;", "form return"),
+        ],
+    ),
+    (
+        "gate h(n) s { ",
+        "{} }}",
+        [
+            ("rx(k * n) s;", None), ("g s;", None), ("x s;", None), ("rx(v) s;", "v"), ("rx(n * v) s;", "v"), ("rx(b) s;", "b"), ("rx(w * pi) s;", "w"), ("rx(o) s;", "o"),
+            ("rx(z[0]) s;", "z"), ("x p;", "p"), ("x q;", "q"), ("cx s, a;", "a"), ("barrier s, p;", "p"), ("h(n) s;", None), ("later s;", "later"),
+            ("pow(v) @ x s;", "v"), ("ctrl(w) @ x s;", "w"),
+        ],
+    ),
+]:
+    for use, name in uses:
+        place = len(OUTSIDE + head) + 1
+        if use == "h(n) s;":
+            # the standard gate of that name has no parameter
+            refusal = f"E14 p:1:{place} arity 0 1"
+        elif name is None:
+            place, refusal = len(OUTSIDE + head + body.format(use)) + 2, None
+        else:
+            refusal = f"E11 p:1:{place} {name}" if name.startswith("form") else f"E8 p:1:{place} name {name}"
+        add(OUTSIDE + head + body.format(use) + " y = 1; def later(int n) -> int { return n; }", refusal or f"E8 p:1:{place} name y")
+
+# ---- bodies in bodies
+def nested(levels):
+    return "int n; " + "if (true) { " * levels + "n = 1; " + "} " * levels
+
+
+add(nested(64), "ok qubits 0 slots 1 size 263")
+add(nested(65), f"E5 p:1:{len('int n; ') + len('if (true) { ') * 64 + len('if (') + 1} nest")
+
 # ---- two faults in one statement, in both orders
 FAULTS = [
     ("y", "E8 {} name y"),
@@ -108,6 +176,9 @@ for fault, refusal in FAULTS:
     add(BEFORE + f"int n = {fault} + 1;", f"E9 {PLACE} twice n")
     add(BEFORE + f"int[65] n = {fault} + 1;", f"E12 {PLACE} const range")
     add(BEFORE + f"if ({fault} == 1) {{ m = 1; }}", refusal.format(PLACE))
+
+for text, wanted in fault_pairs.cases():
+    add(text, wanted)
 
 (here / "stdin").write_text("\n".join(rows) + "\n")
 (here / "stdout").write_text("\n".join(answers) + "\n")
