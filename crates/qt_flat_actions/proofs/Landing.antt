@@ -1,5 +1,28 @@
 -- Each statement without a body, by its kind.
-use Rattle.std.proofs.Common.{◌≡◌, ℕ, zero, suc, ◌+◌, ◌≤◌, Ok, Err, Some, None, List, [], ◌∷◌, ◌++◌, Option, slice_set, refl, sym, ap, subst, ◌∙◌, arith}
+use Rattle.std.proofs.Common.{
+  ◌≡◌,
+  ℕ,
+  zero,
+  suc,
+  ◌+◌,
+  ◌≤◌,
+  Ok,
+  Err,
+  Some,
+  None,
+  List,
+  [],
+  ◌∷◌,
+  ◌++◌,
+  Option,
+  slice_set,
+  refl,
+  sym,
+  ap,
+  subst,
+  ◌∙◌,
+  arith,
+}
 use Rattle.std.specs.List.{flat_map}
 use Rattle.qt_tree.specs.declared.place.Place.{Place}
 use Rattle.qt_value.specs.OpTypes.{result_type}

@@ -1,1 +1,3 @@
 pub mod Landing
+pub mod Lists
+pub mod Sites

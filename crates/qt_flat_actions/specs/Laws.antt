@@ -1,19 +1,20 @@
 -- The flat code of statements without bodies means what they mean (flat code is this profile's; OpenQASM 3.0 live specification,
 -- "Classical instructions" and "Built-in quantum instructions"; Cross et al. 2022).
-use Rattle.std.specs.Prelude.{ℕ, suc, ◌+◌, ◌≤◌}
+use Rattle.std.specs.Prelude.{ℕ, suc, ◌+◌, ◌≤◌, List, [], ◌∷◌}
 use Rattle.qt_tree.specs.declared.place.Place.{Place}
-use Rattle.qt_typed.specs.Choices.{Counts}
+use Rattle.qt_typed.specs.Choices.{Counts, choices as choices_of}
 use Rattle.qt_typed.specs.declared.statement.Spot.{Spot}
 use Rattle.qt_typed.specs.declared.statement.TypedAction.{TypedAction}
+use Rattle.qt_typed.specs.declared.statement.TypedStatement.{TypedStatement}
 use Rattle.qt_typed.specs.declared.statement.TypedStatement.TheVariants.{Simple}
 use Rattle.qt_meaning.specs.Places.{Site}
 use Rattle.qt_meaning.specs.Points.{Point, Run, then_do}
-use Rattle.qt_meaning.specs.Statements.{Calls, act, tree}
+use Rattle.qt_meaning.specs.Statements.{Calls, act, list_tree, past, tree}
 use Rattle.qt_meaning.specs.WellFormed.{Scope}
 use Rattle.qt_instructions.specs.declared.parts.Parts.{Parts}
 use Rattle.qt_code.specs.Cells.{Cells}
 use Rattle.qt_code.specs.Tail.{tail}
-use Rattle.qt_flat_code.specs.Statements.{Codes, Exits, action_code, action_length, statement_code, statement_length}
+use Rattle.qt_flat_code.specs.Statements.{Codes, Exits, action_code, action_length, list_length, statement_code, statement_length}
 use Rattle.qt_gate_call_laws.specs.Seen.{LookAlike}
 use Rattle.qt_flat_gate_calls.specs.Landing.{GoesOn, IsWhole, RunLands}
 use Rattle.qt_flat_actions.specs.Fits.{ActionFits, LinesStand}
@@ -39,3 +40,28 @@ StatementsLand =
     (action : TypedAction) (at : ℕ) → ActionFits code scope site slots (suc at) action
     → LinesStand code at (statement_code lengths codes (Simple spot action) exits site at)
     → FuelLands code at (at + statement_length lengths (Simple spot action)) (tree choices calls (Simple spot action) site)
+
+-- statements in turn, none of which has a body: each fits behind the choices of those before it
+abbrev pub StatementFits : Parts → Scope → Site → ℕ → ℕ → TypedStatement → Type 0
+StatementFits code scope site slots at (Simple spot action) = ActionFits code scope site slots (suc at) action
+StatementFits code scope site slots at _ = ⊥
+
+abbrev pub StatementsFit : Parts → Scope → ℕ → Counts → Counts → Site → ℕ → List TypedStatement → Type 0
+StatementsFit code scope slots lengths choices site at [] = Unit {0}
+StatementsFit code scope slots lengths choices site at (s ∷ ss) =
+    StatementFits code scope site slots at s
+    × StatementsFit code scope slots lengths choices (past (choices_of choices s) site) (at + statement_length lengths s) ss
+
+-- the code of each statement stands where the lengths of those before it say
+abbrev pub StatementsStand : Parts → Counts → Codes → Exits → Site → ℕ → List TypedStatement → Type 0
+StatementsStand code lengths codes exits site at [] = Unit {0}
+StatementsStand code lengths codes exits site at (s ∷ ss) =
+    LinesStand code at (statement_code lengths codes s exits site at)
+    × StatementsStand code lengths codes exits site (at + statement_length lengths s) ss
+
+abbrev pub StraightCodeLands : Type 0
+StraightCodeLands =
+    (code : Parts) (scope : Scope) (slots : ℕ) (lengths choices : Counts) (codes : Codes) (exits : Exits) (calls : Calls) (statements : List TypedStatement)
+    (site : Site) (at : ℕ) → StatementsFit code scope slots lengths choices site at statements
+    → StatementsStand code lengths codes exits site at statements
+    → FuelLands code at (at + list_length lengths statements) (list_tree choices calls statements site)
