@@ -5,7 +5,7 @@
 //! isn't followed into a body; [`reached`] finds which they are, since one that is put in nowhere isn't tested. `specs/Angles.antt` has the
 //! definition, [`statements`] the recursion over bodies, and [`calls`] the expansion of one gate call.
 //!
-//! The check of a whole program calls it (`qt_program_check`).
+//! The check of a whole program calls it (`qt_summary`).
 #![tactic(auto)]
 
 pub mod calls;

@@ -3,7 +3,7 @@
 //! `specs/Summary.antt` has the definition, from the typing on: the size is tested (E17), and then the fixed angles (E13).
 //! [`typed::typed_summary`] makes these steps of a typed program, and [`line::summary_line`] writes the numbers.
 //!
-//! The check of programs and texts calls them (`qt_check_texts`).
+//! No program calls them yet.
 #![tactic(auto)]
 
 pub mod line;
