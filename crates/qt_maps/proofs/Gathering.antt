@@ -1,6 +1,26 @@
 -- What a gathered map has at a key, and sums over it.
-use Rattle.std.proofs.Common.{◌≡◌, Bool, true, false, cond, if◌then◌else◌, List, [], ◌∷◌, Option, None, Some, refl, sym, ap, ◌∙◌, subst,
-    ◌⊎◌, inl, inr}
+use Rattle.std.proofs.Common.{
+  ◌≡◌,
+  Bool,
+  true,
+  false,
+  cond,
+  if◌then◌else◌,
+  List,
+  [],
+  ◌∷◌,
+  Option,
+  None,
+  Some,
+  refl,
+  sym,
+  ap,
+  ◌∙◌,
+  subst,
+  ◌⊎◌,
+  inl,
+  inr,
+}
 use Rattle.std.specs.Map.{lookup}
 use Rattle.qt_maps.specs.Maps.{merged, gathered, joined, at_key, collected, Distinct, SameMap, total, Each, Somewhere, here, there}
 
@@ -138,7 +158,7 @@ module _ {K V : Type 0} (same : K → K → Bool) (same_is : (a b : K) → same 
           ap (λ (m : M). add m (total none add part es)) (ap (λ (y : K). part (y, e.1)) (sym (same_is x e.0 p)) ∙ ap (λ (w : V). part (x, w)) q)
       step ih false p =
           ap (add (part e)) (ih (sym (lookup_miss same same_is same_self x e es p) ∙ h))
-              ∙ swap (part e) (part (x, v)) (total none add part (without x es))
+          ∙ swap (part e) (part (x, v)) (total none add part (without x es))
 
   pub total_same : (es ds : List (K × V)) → Distinct same es → Distinct same ds → SameMap same es ds → total none add part es ≡ total none add part ds
   unfolding total Distinct

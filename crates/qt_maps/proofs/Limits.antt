@@ -1,6 +1,31 @@
 -- A map that is filled up to a limit stands for its pairs.
-use Rattle.std.proofs.Common.{◌≡◌, ℕ, suc, ◌+◌, ◌≤◌, Bool, true, false, cond, if◌then◌else◌, List, [], ◌∷◌, ◌++◌, Option, None, Some,
-    length, refl, sym, ap, ◌∙◌, subst, arith, length-append}
+use Rattle.std.proofs.Common.{
+  ◌≡◌,
+  ℕ,
+  suc,
+  ◌+◌,
+  ◌≤◌,
+  Bool,
+  true,
+  false,
+  cond,
+  if◌then◌else◌,
+  List,
+  [],
+  ◌∷◌,
+  ◌++◌,
+  Option,
+  None,
+  Some,
+  length,
+  refl,
+  sym,
+  ap,
+  ◌∙◌,
+  subst,
+  arith,
+  length-append,
+}
 use Rattle.std.specs.Map.{lookup, set_value}
 use Rattle.qt_maps.specs.Maps.{merged, gathered, joined, at_key, collected, Distinct, total}
 use Rattle.qt_maps.specs.Limited.{Kept, put_at, put, put_all, plain, IsMap, IsKept}
@@ -30,7 +55,7 @@ module _ {K V : Type 0} (same : K → K → Bool) (join : V → V → V) (assoc 
       let rest : Option V = collected same join x cs in
       let more : Option V = collected same join x ds in
       ap (λ o. joined join o one) (collected-append x cs ds) ∙ joined_assoc join assoc comm rest more one
-          ∙ ap (joined join rest) (joined_comm join assoc comm more one) ∙ sym (joined_assoc join assoc comm rest one more)
+      ∙ ap (joined join rest) (joined_comm join assoc comm more one) ∙ sym (joined_assoc join assoc comm rest one more)
 
   collected-middle : (x : K) (d : K × V) (cs ds : List (K × V)) → collected same join x (cs ++ d ∷ ds) ≡ collected same join x (d ∷ (cs ++ ds))
   unfolding collected
@@ -163,7 +188,7 @@ module _ {K V : Type 0} (same : K → K → Bool) (same_is : (a b : K) → same 
         absent p false off true q =
             let m : IsMap same join (merged same join (plain strip k.entries) c.0 c.1) (c ∷ cs) = map-merged (plain strip k.entries) cs c (h.map off) in
             let n : length (gathered same join (c ∷ cs)) ≡ length k.entries + 1 = sym (size_of_map _ (c ∷ cs) m)
-                ∙ ap length (sym (plain_absent c.0 c.1 k.entries p)) ∙ length-pushed k.entries c.0 c.1 in
+            ∙ ap length (sym (plain_absent c.0 c.1 k.entries p)) ∙ length-pushed k.entries c.0 c.1 in
             record { mark = sym (ap over n ∙ q); map = λ f. absurd (cc f) }
         absent p false off false q = grows k cs c (plain strip (k.entries ++ (c.0, fresh c.1) ∷ [])) off h (plain_absent c.0 c.1 k.entries p) k.full (off ∙ sym (ap over (length-pushed k.entries c.0 c.1) ∙ q))
 
