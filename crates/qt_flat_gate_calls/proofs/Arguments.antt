@@ -19,7 +19,7 @@ use Rattle.qt_flat_expressions.specs.Lands.{KeepsBelow, StandsAt}
 use Rattle.qt_flat_expressions.proofs.Lengths.{Long, joined}
 use Rattle.qt_flat_expressions.proofs.Standing.{stands_behind, stands_first}
 use Rattle.qt_flat_gate_calls.specs.Fits.{PhasesFit}
-use Rattle.qt_flat_gate_calls.proofs.Arriving.{Gets, gets_here, gets_then}
+use Rattle.qt_flat_expressions.proofs.Arriving.{Gets, gets_here, gets_then}
 use Rattle.qt_flat_gate_calls.proofs.Phases.{InUnits, phase_gets, phase_long, units_same}
 
 -- the units that the cells hold

@@ -49,7 +49,8 @@ use Rattle.qt_flat_expressions.proofs.Standing.{stands_behind, stands_first}
 use Rattle.qt_flat_gate_calls.specs.Landing.{GoesOn, IsWhole}
 use Rattle.qt_flat_gate_calls.specs.Laws.{GateCallsLand}
 use Rattle.qt_flat_gate_calls.proofs.Arguments.{Held, all_below, arguments_get, arguments_long, held_kept, units_of}
-use Rattle.qt_flat_gate_calls.proofs.Arriving.{Arrives, Gets, gets_followed, gets_same}
+use Rattle.qt_flat_expressions.proofs.Arriving.{Arrives, Gets, gets_same}
+use Rattle.qt_flat_gate_calls.proofs.Arriving.{gets_followed}
 use Rattle.qt_flat_gate_calls.proofs.Primitives.{named_in, primitives_land, read_in}
 use Rattle.qt_flat_gate_calls.proofs.Qubits.{NamedAll, Stays, as_named, behind_more, names_kept, qubits_get, qubits_long, test_gets}
 use Rattle.qt_flat_gate_calls.proofs.Steps.{HoldUnits, steps_get}

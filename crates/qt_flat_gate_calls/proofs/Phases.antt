@@ -44,7 +44,7 @@ use Rattle.qt_flat_expressions.proofs.Sized.{type_sized}
 use Rattle.qt_flat_expressions.proofs.Standing.{stands_behind, stands_first}
 use Rattle.qt_flat_expressions.proofs.Stepping.{HasAt}
 use Rattle.qt_flat_gate_calls.specs.Fits.{PhaseFits}
-use Rattle.qt_flat_gate_calls.proofs.Arriving.{Gets, InCell, gets_here, gets_other, gets_then, gets_value}
+use Rattle.qt_flat_expressions.proofs.Arriving.{Gets, InCell, gets_here, gets_other, gets_then, gets_value}
 
 -- ---- units in cells
 

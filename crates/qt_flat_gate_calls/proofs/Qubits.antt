@@ -36,7 +36,7 @@ use Rattle.qt_flat_expressions.proofs.Expressions.{expression_comes, got_comes}
 use Rattle.qt_flat_expressions.proofs.Lengths.{Long, expression_long, joined}
 use Rattle.qt_flat_expressions.proofs.Standing.{stands_behind, stands_first}
 use Rattle.qt_flat_gate_calls.specs.Fits.{FixedDiffer, IndexFits, IndexesFit, SiteFits}
-use Rattle.qt_flat_gate_calls.proofs.Arriving.{Gets, InCell, gets_here, gets_other, gets_same, gets_then, gets_value}
+use Rattle.qt_flat_expressions.proofs.Arriving.{Gets, InCell, gets_here, gets_other, gets_same, gets_then, gets_value}
 
 -- ---- how long the code is
 

@@ -19,7 +19,7 @@ use Rattle.qt_flat_code.specs.GateCalls.{steps_code}
 use Rattle.qt_flat_expressions.specs.Lands.{StandsAt}
 use Rattle.qt_flat_expressions.proofs.Numbers.{IsSmall}
 use Rattle.qt_flat_gate_calls.proofs.Arguments.{units_of}
-use Rattle.qt_flat_gate_calls.proofs.Arriving.{Gets, gets_fewer, gets_here, gets_same, gets_then}
+use Rattle.qt_flat_expressions.proofs.Arriving.{Gets, gets_fewer, gets_here, gets_same, gets_then}
 use Rattle.qt_flat_gate_calls.proofs.Phases.{AllSmall, Written, angle_writes, number_back, small_sum, small_difference, small_negative, small_product, small_over, some_of}
 
 -- ---- what a step gives

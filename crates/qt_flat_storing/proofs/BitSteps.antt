@@ -37,7 +37,7 @@ use Rattle.qt_flat_expressions.proofs.Standing.{stands_behind, stands_first}
 use Rattle.qt_flat_expressions.proofs.Stepping.{cell_above, binary_step, cast_step, load_step}
 use Rattle.qt_flat_storing.specs.Fits.{StepsFit}
 use Rattle.qt_flat_storing.proofs.Bits.{ArePlaces, BitsIn, Leaves, one_slice, slice_are}
-use Rattle.qt_flat_storing.proofs.Getting.{Gets, InCell, gets_here, gets_same, gets_then, gets_value}
+use Rattle.qt_flat_expressions.proofs.Arriving.{Gets, InCell, gets_here, gets_same, gets_then, gets_value}
 
 -- ---- lengths
 

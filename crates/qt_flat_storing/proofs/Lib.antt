@@ -1,7 +1,6 @@
 pub mod BitSteps
 pub mod Bits
 pub mod Copying
-pub mod Getting
 pub mod Storing
 pub mod Targets
 pub mod Variables

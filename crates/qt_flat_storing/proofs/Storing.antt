@@ -32,7 +32,7 @@ use Rattle.qt_flat_expressions.proofs.Stepping.{HasAt, load_step}
 use Rattle.qt_flat_storing.specs.Fits.{AllFit, TargetFits}
 use Rattle.qt_flat_storing.specs.Laws.{ArraysStore, AssignmentsStore, UpdatesStore}
 use Rattle.qt_flat_storing.specs.Stores.{Continues, Storing, assigned, changed}
-use Rattle.qt_flat_storing.proofs.Getting.{Arrives, Gets, InCell, gets_here, gets_then, gets_value}
+use Rattle.qt_flat_expressions.proofs.Arriving.{Arrives, Gets, InCell, gets_here, gets_then, gets_value}
 use Rattle.qt_flat_storing.proofs.Targets.{Located, located_kept, loading_long, loads, location_gets, location_long, stores_at, target_counts}
 
 -- what stores, as a record, so that its arguments are found

@@ -35,7 +35,7 @@ use Rattle.qt_flat_storing.specs.Stores.{Continues}
 use Rattle.qt_flat_storing.proofs.Bits.{ArePlaces, BitsIn, Leaves, OneIn, all_are, loaded_one, loaded_places, stored_copied}
 use Rattle.qt_flat_storing.proofs.BitSteps.{steps_get, steps_long}
 use Rattle.qt_flat_storing.proofs.Copying.{copies}
-use Rattle.qt_flat_storing.proofs.Getting.{Gets, gets_here, gets_then}
+use Rattle.qt_flat_expressions.proofs.Arriving.{Gets, gets_here, gets_then}
 use Rattle.qt_flat_storing.proofs.Variables.{PlaceIn, get_variable, place_kept, put_variable, variable_gets, variable_long}
 
 -- ---- where a target is, by what the cells hold

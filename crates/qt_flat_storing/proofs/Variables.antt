@@ -31,7 +31,7 @@ use Rattle.qt_flat_expressions.proofs.Rooms.{left_of, room_here, room_left}
 use Rattle.qt_flat_expressions.proofs.Standing.{stands_behind, stands_first}
 use Rattle.qt_flat_expressions.proofs.Stepping.{HasAt, get_step, load_step}
 use Rattle.qt_flat_storing.specs.Fits.{AllIndexesFit, VariableFits}
-use Rattle.qt_flat_storing.proofs.Getting.{Gets, InCell, gets_from, gets_here, gets_then, gets_value}
+use Rattle.qt_flat_expressions.proofs.Arriving.{Gets, InCell, gets_from, gets_here, gets_then, gets_value}
 
 -- ---- lengths
 
